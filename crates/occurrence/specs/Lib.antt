@@ -1,0 +1,4 @@
+pub mod Occurrence
+pub mod Search
+pub mod Parts
+pub mod Laws
