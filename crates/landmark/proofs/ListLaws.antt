@@ -14,7 +14,9 @@ use Rattle.std.specs.declared.result.Result.{Result}
 use Rattle.std.specs.declared.result.Result.the-variants.{Ok, Err}
 use Rattle.landmark.specs.Records.{Item, item-at, after}
 use Rattle.landmark.specs.Lists.{Row, Parts, ended, broken, part, part-of, parts, parts-from, judged, unless, row-refusal, sort-of}
+use Rattle.landmark.specs.Grammar.{items-of, runs-of, words-from}
 use Rattle.landmark.specs.declared.refusal.Refusal.{Refusal}
+use Rattle.landmark.proofs.ContentLaws.{stands}
 
 -- enough is enough: the number of records at most makes no difference
 parts-same : (k m : ℕ) (l : List ℕ) (p : ℕ) → length l < k + p → length l < m + p → parts k l p ≡ parts m l p
@@ -40,3 +42,9 @@ parts-at-fault l p why h e =
 pub judged-record : (l : List ℕ) (p : ℕ) (i : Item) (row : Row) (refused : Option Refusal) → p < length l → item-at l p ≡ Ok i → row-refusal row (sort-of i) ≡ refused → judged (length l) row (parts-from l p) ≡ unless refused p (judged (length l) (i ∷ row) (parts-from l (after l p)))
 judged-record l p i row refused h e r =
     ap (judged (length l) row) (parts-at-record l p i h e) ∙ ap (λ o. unless o p (judged (length l) (i ∷ row) (parts-from l (after l p)))) r
+
+-- the words from a record on
+pub words-at-record : (l : List ℕ) (p : ℕ) (i : Item) → item-at l p ≡ Ok i → words-from l p ≡ runs-of (i ∷ items-of (parts-from l (after l p)))
+words-at-record l p i e =
+    let fits = stands l p i e .fits in
+    ap (λ ps. runs-of (items-of ps)) (parts-at-record l p i (omega arith) e)

@@ -18,7 +18,7 @@ use Rattle.std.specs.declared.result.Result.{Result}
 use Rattle.std.specs.declared.result.Result.the-variants.{Ok, Err}
 use Rattle.landmark.specs.Records.{Item, start, run, gap, star, any, unfit, encoding, item-at, after, two-bytes, body-at, body-of, kind-of, as-two}
 use Rattle.landmark.specs.Lists.{Row, Parts, ended, broken, part, part-of, parts, parts-from, judged, unless, counts, list-verdict, newest, ends-well, row-refusal, sort-of, landmarks-in, words-in, bytes-in}
-use Rattle.landmark.specs.Grammar.{Step, Landmark, Groups, Good-operator, Good-step, Good-landmark, Well-formed, Is-list-of, step-items, landmark-items, grouped, put-operator, with-operator, items-of, landmarks-of, list-items, list-bytes, list-counts, all-words, sizes, Accepted-exactly}
+use Rattle.landmark.specs.Grammar.{Step, Landmark, Groups, Good-operator, Good-step, Good-landmark, Well-formed, Is-list-of, step-items, landmark-items, grouped, put-operator, with-operator, items-of, runs-of, landmarks-of, list-items, list-bytes, list-counts, all-words, sizes, Accepted-exactly}
 use Rattle.landmark.specs.declared.judge.Sort.the-variants as S
 use Rattle.landmark.specs.declared.list.Counts.{Counts}
 use Rattle.landmark.specs.declared.refusal.Refusal.{Refusal}
@@ -188,6 +188,15 @@ counts-are is ms e =
     let run-bytes : bytes-in (onto is []) ≡ sizes (all-words ms) = c .run-bytes ∙ zero-add _ ∙ ap (λ g. sizes (words-of-groups g)) e in
     cc
 
+-- the runs of the records are the words of their groups
+runs-grouped : (is : List Item) → runs-of is ≡ words-of-groups (grouped is)
+runs-grouped [] = refl
+runs-grouped (start role ∷ is) = runs-grouped is
+runs-grouped (run w ∷ is) = ap (λ ws. w ∷ ws) (runs-grouped is)
+runs-grouped (gap least greatest ∷ is) = runs-grouped is ∙ sym (operator-words (gap least greatest) (grouped is))
+runs-grouped (star ∷ is) = runs-grouped is ∙ sym (operator-words star (grouped is))
+runs-grouped (any ∷ is) = runs-grouped is ∙ sym (operator-words any (grouped is))
+
 -- the records of good landmarks are fit
 fit-operators : (is : List Item) → All Good-operator is → All Fit is
 fit-operators [] good = tt
@@ -215,6 +224,7 @@ accepted-exactly l (Ok c) bytes e =
     let again : grouped items ≡ record { steps = []; landmarks = landmarks-of l } = ap grouped (sym (good .1)) ∙ grouped-list (landmarks-of l) (good .0 .each) in
     (record { well-formed = good .0; bytes = covers .1 ∙ ap (joined encoding) (sym (good .1)) },
      a .2 ∙ counts-are items (landmarks-of l) again,
+     runs-grouped items ∙ ap words-of-groups again,
      λ ms is. let read = list-read l ms is in
        sym (ap (λ (g : Groups). g .landmarks) (ap grouped (read .items) ∙ grouped-list ms (is .well-formed .each))))
 accepted-exactly l (Err f) bytes e =

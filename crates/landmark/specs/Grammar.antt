@@ -2,10 +2,12 @@
 use mathlib.Core.Path.{_≡_}
 use mathlib.Core.Bool.{false}
 use mathlib.Core.List.{List, [], _∷_, _++_, map}
-use Prim.Native.Nat.{ℕ, _+_, _≤_}
+use Prim.Native.Nat.{ℕ, _+_, _≤_, _<_}
 use lib.ListN.{length}
 use Rattle.std.specs.shelf.Lists.{All, joined}
-use Rattle.std.specs.declared.option.Option.the-variants.{None}
+use denote.Ref.{now}
+use Rattle.std.specs.declared.option.Option.{Option}
+use Rattle.std.specs.declared.option.Option.the-variants.{Some, None}
 use Rattle.std.specs.declared.result.Result.{Result}
 use Rattle.std.specs.declared.result.Result.the-variants.{Ok, Err}
 use Rattle.occurrence.specs.Occurrence.{Gap, Pattern, last, then}
@@ -15,6 +17,7 @@ use Rattle.landmark.specs.declared.element.Role.{Role}
 use Rattle.landmark.specs.declared.judge.Sort.the-variants.{Operator}
 use Rattle.landmark.specs.declared.list.Counts.{Counts}
 use Rattle.landmark.specs.declared.refusal.Fault.{Fault}
+use Rattle.landmark.specs.declared.word.Word.{Word}
 
 -- a word, with the operators in front of it
 pub record Step : Type 0 where
@@ -124,12 +127,29 @@ items-of ended = []
 items-of (broken why p) = []
 items-of (part p i rest) = i ∷ items-of rest
 
--- the landmarks and the words of a list, each numbered from 0 in the list's order
+-- the landmarks of a list, numbered from 0 in the list's order
 abbrev pub landmarks-of : List ℕ → List Landmark
 landmarks-of l = grouped (items-of (parts-from l 0)) .landmarks
 
+-- the words of a list: its runs, numbered from 0 in the list's order
+abbrev pub runs-of : List Item → List (List ℕ)
+runs-of [] = []
+runs-of (start role ∷ is) = runs-of is
+runs-of (run bytes ∷ is) = bytes ∷ runs-of is
+runs-of (gap least greatest ∷ is) = runs-of is
+runs-of (star ∷ is) = runs-of is
+runs-of (any ∷ is) = runs-of is
+
+abbrev pub words-from : List ℕ → ℕ → List (List ℕ)
+words-from l p = runs-of (items-of (parts-from l p))
+
 abbrev pub words-of : List ℕ → List (List ℕ)
-words-of l = all-words (landmarks-of l)
+words-of l = words-from l 0
+
+-- the next word from a place on, with the place after it; none where no word is left
+abbrev pub Next-word : List ℕ → ℕ → Option Word → Type 0
+Next-word l p None = words-from l p ≡ []
+Next-word l p (Some w) = (words-from l p ≡ now (w .bytes) ∷ words-from l (w .next)) × (p < w .next) × (w .next ≤ length l)
 
 -- the bytes are those of these landmarks, which are well formed
 pub record Is-list-of (l : List ℕ) (ms : List Landmark) : Type 0 where
@@ -138,5 +158,6 @@ pub record Is-list-of (l : List ℕ) (ms : List Landmark) : Type 0 where
 
 -- reading a list: accepted exactly if its bytes are those of well-formed landmarks; these are then its landmarks, and it counts them
 abbrev pub Accepted-exactly : List ℕ → Result Counts Fault → Type 0
-Accepted-exactly l (Ok c) = Is-list-of l (landmarks-of l) × (c ≡ list-counts (landmarks-of l)) × ((ms : List Landmark) → Is-list-of l ms → ms ≡ landmarks-of l)
+Accepted-exactly l (Ok c) =
+    Is-list-of l (landmarks-of l) × (c ≡ list-counts (landmarks-of l)) × (words-of l ≡ all-words (landmarks-of l)) × ((ms : List Landmark) → Is-list-of l ms → ms ≡ landmarks-of l)
 Accepted-exactly l (Err f) = (ms : List Landmark) → Is-list-of l ms → ⊥
