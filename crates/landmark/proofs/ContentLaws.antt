@@ -68,7 +68,7 @@ start-content body i e =
     by-cond (eqb (two-bytes body 0) 1) _ _ _ (sized .1)
     (λ t is. subst (Content 1 body) (same-item (start Entry) i is) (record { kind-is = refl; fit = refl; body-is = λ h. two-bytes-of body size h ∙ ap as-two (eqb-true _ _ t) }))
     (λ f rest. let second = passed (eqb (two-bytes body 0) 2) _ _ i rest in
-      subst (Content 1 body) (same-item (start Bar) i (second .1)) (record { kind-is = refl; fit = refl; body-is = λ h. two-bytes-of body size h ∙ ap as-two (eqb-true _ _ (second .0)) }))
+    subst (Content 1 body) (same-item (start Bar) i (second .1)) (record { kind-is = refl; fit = refl; body-is = λ h. two-bytes-of body size h ∙ ap as-two (eqb-true _ _ (second .0)) }))
 
 run-content : (body : List ℕ) (i : Item) → run-of body ≡ Ok i → Content 2 body i
 run-content body i e =

@@ -50,9 +50,10 @@ both-none (Some m) = (ap Some (add-zero m), ap Some (zero-add m))
 plus-none : (g : Gap) → (plus g no-gap ≡ g) × (plus no-gap g ≡ g)
 plus-none g =
     let low : ℕ → Option ℕ → Gap = λ n o. record { least = n; greatest = o } in
-    let high = both-none (g .greatest) in
-    (ap (λ n. low n (both (g .greatest) (Some 0))) (add-zero (g .least)) ∙ ap (low (g .least)) (high .0),
-     ap (λ n. low n (both (Some 0) (g .greatest))) (zero-add (g .least)) ∙ ap (low (g .least)) (high .1))
+    let high = both-none (g .greatest) in (
+      ap (λ n. low n (both (g .greatest) (Some 0))) (add-zero (g .least)) ∙ ap (low (g .least)) (high .0),
+      ap (λ n. low n (both (Some 0) (g .greatest))) (zero-add (g .least)) ∙ ap (low (g .least)) (high .1),
+    )
 
 -- what it says that a record is not refused
 starts-freely : (row : Row) → row-refusal row S.Start ≡ None → (may-follow (newest row) S.Start ≡ true) × (landmarks-in row < 32)
@@ -131,7 +132,8 @@ put-start role row is e r =
       steps = tt;
       each = (good, r .each);
       few = omega (arith, r .few);
-      few-words = omega (arith, r .few-words, length-append (words-of-landmark (record { role = role; steps = g .steps })) (all-words (g .landmarks)), length-map (g .steps) (λ (s : Step). s .word)) }
+      few-words = omega (arith, r .few-words, length-append (words-of-landmark (record { role = role; steps = g .steps })) (all-words (g .landmarks)), length-map (g .steps) (λ (s : Step). s .word));
+    }
   where
     opens : (o : Option Sort) → may-follow o S.Start ≡ true → First o [] (grouped (start role ∷ is) .landmarks)
     opens None m = (refl, omega arith)
@@ -150,7 +152,8 @@ put-run w row is fit e r =
       steps = (tt, subst (λ h. too-wide h ≡ false) (sym (plus-none (gap-since row) .0)) (free .1), fit, good-steps (g .steps) (r .steps));
       each = r .each;
       few = r .few;
-      few-words = omega (arith, r .few-words) }
+      few-words = omega (arith, r .few-words);
+    }
   where
     closes : (o : Option Sort) → may-follow o S.Run ≡ true → First o (grouped (run w ∷ is) .steps) (grouped is .landmarks)
     closes None m = let z : _≡_ {A = ℕ} 0 1 = cc in absurd (omega arith)
@@ -173,7 +176,8 @@ put-before i row is (s ∷ ss) ms sort fit e r =
       steps = ((record { operator = sort; fit = fit }, behind .0), subst (λ g. too-wide g ≡ false) sums (behind .1), behind .2, behind .3);
       each = r .each;
       few = omega (arith, r .few, adds .landmarks);
-      few-words = omega (arith, r .few-words, adds .words) }
+      few-words = omega (arith, r .few-words, adds .words);
+    }
   where
     goes : (o : Option Sort) → may-follow o S.Operator ≡ true → First o (put-operator i (s ∷ ss)) ms
     goes None m = let z : _≡_ {A = ℕ} 0 1 = cc in absurd (omega arith)
@@ -198,9 +202,10 @@ rest-of (any ∷ is) row small fit (e, more) = put-before any row is _ _ refl (f
 pub accepted-well-formed : (is : List Item) → All Fit is → Accepts [] is → Well-formed (grouped is .landmarks) × (list-items (grouped is .landmarks) ≡ is)
 accepted-well-formed is fit a =
     let r = rest-of is [] (omega arith, omega arith) fit a in
-    let none = r .first .0 in
-    (record { some = r .first .1; few = omega (arith, r .few); few-words = omega (arith, r .few-words); each = r .each },
-     ap (λ ss. joined step-items ss ++ list-items (grouped is .landmarks)) (sym none) ∙ r .items)
+    let none = r .first .0 in (
+      record { some = r .first .1; few = omega (arith, r .few); few-words = omega (arith, r .few-words); each = r .each },
+      ap (λ ss. joined step-items ss ++ list-items (grouped is .landmarks)) (sym none) ∙ r .items,
+    )
 
 -- where a run may be read, behind these operators
 abbrev May-read : Option Sort → List Item → Type 0
@@ -218,9 +223,10 @@ record Read-run (row next : Row) : Type 0 where
 
 -- operators and the run behind them are accepted where their sums are narrow
 accepts-step : (ops : List Item) (w : List ℕ) (row : Row) (tail : List Item) → All Good-operator ops → too-wide (plus (gap-since row) (gap-of ops)) ≡ false → words-in row < 64 → May-read (newest row) ops → ((next : Row) → Read-run row next → Accepts next tail) → Accepts row (ops ++ (run w ∷ tail))
-accepts-step [] w row tail good narrow few may more =
-    (may-run row (run-may (newest row) may) (subst (λ g. too-wide g ≡ false) (plus-none (gap-since row) .0) narrow) few,
-     more (run w ∷ row) (record { newest-is = refl; landmarks = refl; words = refl; gap-is = refl }))
+accepts-step [] w row tail good narrow few may more = (
+  may-run row (run-may (newest row) may) (subst (λ g. too-wide g ≡ false) (plus-none (gap-since row) .0) narrow) few,
+  more (run w ∷ row) (record { newest-is = refl; landmarks = refl; words = refl; gap-is = refl }),
+)
   where
     run-may : (o : Option Sort) → May-read o [] → may-follow o S.Run ≡ true
     run-may None m = absurd m
@@ -229,11 +235,12 @@ accepts-step [] w row tail good narrow few may more =
     run-may (Some S.Operator) m = refl
 accepts-step (i ∷ ops) w row tail (good, goods) narrow few may more =
     let adds = adds-gap i row (good .operator) in
-    let sums = ap (λ g. plus g (gap-of ops)) (adds .spacing) ∙ plus-assoc (gap-since row) (allowance i) (gap-of ops) in
-    (subst (λ k. row-refusal row k ≡ None) (sym (good .operator)) (may-operate row (operator-may (newest row) may)),
-     accepts-step ops w (i ∷ row) tail goods (subst (λ g. too-wide g ≡ false) (sym sums) narrow) (omega (arith, adds .words))
-     (subst (λ k. May-read (Some k) ops) (sym (good .operator)) tt)
-     (λ next r. more next (record { newest-is = r .newest-is; landmarks = r .landmarks ∙ adds .landmarks; words = r .words ∙ ap (λ n. n + 1) (adds .words); gap-is = r .gap-is })))
+    let sums = ap (λ g. plus g (gap-of ops)) (adds .spacing) ∙ plus-assoc (gap-since row) (allowance i) (gap-of ops) in (
+      subst (λ k. row-refusal row k ≡ None) (sym (good .operator)) (may-operate row (operator-may (newest row) may)),
+      accepts-step ops w (i ∷ row) tail goods (subst (λ g. too-wide g ≡ false) (sym sums) narrow) (omega (arith, adds .words))
+          (subst (λ k. May-read (Some k) ops) (sym (good .operator)) tt)
+          (λ next r. more next (record { newest-is = r .newest-is; landmarks = r .landmarks ∙ adds .landmarks; words = r .words ∙ ap (λ n. n + 1) (adds .words); gap-is = r .gap-is })),
+    )
   where
     operator-may : (o : Option Sort) → May-read o (i ∷ ops) → may-follow o S.Operator ≡ true
     operator-may None m = absurd m
@@ -265,22 +272,23 @@ accepts-steps : (ss : List Step) (row : Row) (tail : List Item) → All Good-ste
 accepts-steps [] row tail good may none few more = more row (record { newest-is = may; landmarks = refl; words = sym (add-zero (words-in row)) })
 accepts-steps (s ∷ ss) row tail (good, goods) may none few more =
     let narrow : too-wide (plus (gap-since row) (gap-of (s .operators))) ≡ false =
-        ap too-wide (ap (λ g. plus g (gap-of (s .operators))) none ∙ plus-none (gap-of (s .operators)) .1) ∙ good .narrow in
+    ap too-wide (ap (λ g. plus g (gap-of (s .operators))) none ∙ plus-none (gap-of (s .operators)) .1) ∙ good .narrow in
     let items : s .operators ++ (run (s .word) ∷ (joined step-items ss ++ tail)) ≡ (step-items s ++ joined step-items ss) ++ tail = simp append-assoc in
     subst (Accepts row) items
     (accepts-step (s .operators) (s .word) row (joined step-items ss ++ tail) (good .operators) narrow (omega arith) may
     (λ next r. accepts-steps ss next tail goods (subst (λ o. May-go o ss) (sym (r .newest-is)) (go-on ss)) (r .gap-is) (omega (arith, r .words))
-      (λ last q. more last (record { newest-is = q .newest-is; landmarks = q .landmarks ∙ r .landmarks; words = omega (arith, q .words, r .words) }))))
+    (λ last q. more last (record { newest-is = q .newest-is; landmarks = q .landmarks ∙ r .landmarks; words = omega (arith, q .words, r .words) }))))
 
 -- good landmarks are accepted behind a row that a start may follow, and the last of them ends behind a run
 accepts-landmarks : (ms : List Landmark) (row : Row) → All Good-landmark ms → may-follow (newest row) S.Start ≡ true → (length ms ≡ 0 → newest row ≡ Some S.Run) → landmarks-in row + length ms ≤ 32 → words-in row + length (all-words ms) ≤ 64 → Accepts row (list-items ms)
 accepts-landmarks [] row good may ends few words = ap ends-well (ends refl)
 accepts-landmarks (m ∷ ms) row (good, goods) may ends few words =
     let count : length (words-of-landmark m) ≡ length (m .steps) = length-map (m .steps) (λ (s : Step). s .word) in
-    let split : length (all-words (m ∷ ms)) ≡ length (words-of-landmark m) + length (all-words ms) = length-append (words-of-landmark m) (all-words ms) in
-    (may-start row may (omega arith),
-     accepts-steps (m .steps) (start (m .role) ∷ row) (list-items ms) (good .steps) (go-first (m .steps) (good .begins)) refl (omega arith)
-     (λ next r. accepts-landmarks ms next goods (ap (λ o. may-follow o S.Start) (r .newest-is)) (λ _. r .newest-is) (omega (arith, r .landmarks)) (omega (arith, r .words))))
+    let split : length (all-words (m ∷ ms)) ≡ length (words-of-landmark m) + length (all-words ms) = length-append (words-of-landmark m) (all-words ms) in (
+      may-start row may (omega arith),
+      accepts-steps (m .steps) (start (m .role) ∷ row) (list-items ms) (good .steps) (go-first (m .steps) (good .begins)) refl (omega arith)
+          (λ next r. accepts-landmarks ms next goods (ap (λ o. may-follow o S.Start) (r .newest-is)) (λ _. r .newest-is) (omega (arith, r .landmarks)) (omega (arith, r .words))),
+    )
 
 -- the records of well-formed landmarks are accepted
 pub well-formed-accepted : (ms : List Landmark) → Well-formed ms → Accepts [] (list-items ms)

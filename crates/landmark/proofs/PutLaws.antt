@@ -30,11 +30,11 @@ put-put b p q xs ys h at =
     let whole = put-front b p xs in
     let kept : take q (put b p xs) ≡ take p b ++ xs = ap (take q) whole ∙ take-at (take p b ++ xs) (drop (p + length xs) b) q front in
     let rest : drop (q + length ys) (put b p xs) ≡ drop (p + length (xs ++ ys)) b =
-        sym (drop-drop (length ys) q (put b p xs))
-        ∙ ap (λ l. drop (length ys) (drop q l)) whole
-        ∙ ap (drop (length ys)) (drop-at (take p b ++ xs) (drop (p + length xs) b) q front)
-        ∙ drop-drop (length ys) (p + length xs) b
-        ∙ ap (λ n. drop n b) (simp length-append (omega arith)) in
+    sym (drop-drop (length ys) q (put b p xs))
+    ∙ ap (λ l. drop (length ys) (drop q l)) whole
+    ∙ ap (drop (length ys)) (drop-at (take p b ++ xs) (drop (p + length xs) b) q front)
+    ∙ drop-drop (length ys) (p + length xs) b
+    ∙ ap (λ n. drop n b) (simp length-append (omega arith)) in
     simp (kept, rest, append-assoc)
 
 pub put-one : (b : List ℕ) (p x : ℕ) → p < length b → set b p x ≡ put b p (x ∷ [])

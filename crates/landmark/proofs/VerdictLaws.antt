@@ -116,7 +116,7 @@ complete-covers (suc most) l p bytes enough whole =
     let more : Complete (parts most l (after l p)) → Covers l (after l p) (parts most l (after l p)) = λ w. complete-covers most l (after l p) bytes (omega arith) w in
     ⊎-elim
     (λ before. let is : parts (suc most) l p ≡ one = cond-false (leb (length l) p) ended one (lt-leb (length l) p before) in
-      subst (Covers l p) (sym is) (covers-one l p (parts most l (after l p)) (item-at l p) bytes refl more (subst Complete is whole)))
+    subst (Covers l p) (sym is) (covers-one l p (parts most l (after l p)) (item-at l p) bytes refl more (subst Complete is whole)))
     (λ past. subst (Covers l p) (sym (cond-true (leb (length l) p) ended one (le-leb (length l) p past))) (tt, drop-all p l past))
     (cases-lt p (length l))
 
@@ -166,7 +166,8 @@ counted-operator i row is sort grouping c =
     record {
       landmarks = c .landmarks ∙ cc (adds .landmarks, ap (λ (g : Groups). length (g .landmarks)) grouping);
       words = c .words ∙ cc (adds .words, ap length same);
-      run-bytes = c .run-bytes ∙ cc (adds .run-bytes, ap sizes same) }
+      run-bytes = c .run-bytes ∙ cc (adds .run-bytes, ap sizes same);
+    }
 
 counted : (is : List Item) (row : Row) → Counted row is
 counted [] row = record { landmarks = sym (add-zero _); words = sym (add-zero _); run-bytes = sym (add-zero _) }
@@ -221,12 +222,13 @@ accepted-exactly l (Ok c) bytes e =
     let a = accepted-parts (length l) [] (parts-from l 0) c e in
     let covers = complete-covers (suc (length l)) l 0 bytes (omega arith) (a .0) in
     let good = accepted-well-formed items (covers .0) (a .1) in
-    let again : grouped items ≡ record { steps = []; landmarks = landmarks-of l } = ap grouped (sym (good .1)) ∙ grouped-list (landmarks-of l) (good .0 .each) in
-    (record { well-formed = good .0; bytes = covers .1 ∙ ap (joined encoding) (sym (good .1)) },
-     a .2 ∙ counts-are items (landmarks-of l) again,
-     runs-grouped items ∙ ap words-of-groups again,
-     λ ms is. let read = list-read l ms is in
-       sym (ap (λ (g : Groups). g .landmarks) (ap grouped (read .items) ∙ grouped-list ms (is .well-formed .each))))
+    let again : grouped items ≡ record { steps = []; landmarks = landmarks-of l } = ap grouped (sym (good .1)) ∙ grouped-list (landmarks-of l) (good .0 .each) in (
+      record { well-formed = good .0; bytes = covers .1 ∙ ap (joined encoding) (sym (good .1)) },
+      a .2 ∙ counts-are items (landmarks-of l) again,
+      runs-grouped items ∙ ap words-of-groups again,
+      λ ms is. let read = list-read l ms is in
+          sym (ap (λ (g : Groups). g .landmarks) (ap grouped (read .items) ∙ grouped-list ms (is .well-formed .each))),
+    )
 accepted-exactly l (Err f) bytes e =
     λ ms is. let read = list-read l ms is in
     let accepts = subst (Accepts []) (sym (read .items)) (well-formed-accepted ms (is .well-formed)) in

@@ -27,7 +27,13 @@ impl Judge {
     pub(crate) fn new() -> Judge
         ensures { λ r. ⌜ Has-judged r [] ⌝ }
     {
-        Judge { landmarks: 0, words: 0, run_bytes: 0, newest: None, spacing: Spacing::none() }
+        Judge {
+            landmarks: 0,
+            words: 0,
+            run_bytes: 0,
+            newest: None,
+            spacing: Spacing::none(),
+        }
     }
 
     fn start(&mut self) -> Result<(), Refusal>
@@ -44,6 +50,7 @@ impl Judge {
         self.spacing = Spacing::none();
         Ok(())
     }
+
     fn run(&mut self, bytes: &[u8]) -> Result<(), Refusal>
         requires { ⌜ length (now bytes) ≤ 64 ⌝ }
         ensures { λ r. ⌜ Judges (now (self .entry)) (run (now (bytes .entry))) (now (self .exit)) r ⌝ }
@@ -84,9 +91,18 @@ impl Judge {
         match element {
             Element::Start(_) => self.start(),
             Element::Run(bytes) => self.run(bytes),
-            Element::Gap(gap) => self.operator(Spacing { least: gap.least, greatest: Some(gap.greatest) }),
-            Element::Star => self.operator(Spacing { least: 0, greatest: None }),
-            Element::Any => self.operator(Spacing { least: 1, greatest: Some(1) }),
+            Element::Gap(gap) => self.operator(Spacing {
+                least: gap.least,
+                greatest: Some(gap.greatest),
+            }),
+            Element::Star => self.operator(Spacing {
+                least: 0,
+                greatest: None,
+            }),
+            Element::Any => self.operator(Spacing {
+                least: 1,
+                greatest: Some(1),
+            }),
         }
     }
 
@@ -95,8 +111,15 @@ impl Judge {
         ensures { λ r. ⌜ ((row : Row) → Has-judged (now (self .entry)) row → r ≡ judged size row ended) ⌝ }
     {
         match self.newest {
-            Some(Sort::Run) => Ok(Counts { landmarks: self.landmarks, words: self.words, run_bytes: self.run_bytes }),
-            _ => Err(Fault { refusal: Refusal::Misplaced, detail: size }),
+            Some(Sort::Run) => Ok(Counts {
+                landmarks: self.landmarks,
+                words: self.words,
+                run_bytes: self.run_bytes,
+            }),
+            _ => Err(Fault {
+                refusal: Refusal::Misplaced,
+                detail: size,
+            }),
         }
     }
 }

@@ -25,7 +25,10 @@ pub fn read_list(list: &[u8]) -> Result<Counts, Fault>
         let read = read_element(list, place)?;
         match judge.take(read.element) {
             Ok(()) => place = read.next,
-            Err(refusal) => return Err(Fault { refusal, detail: place }),
+            Err(refusal) => return Err(Fault {
+                refusal,
+                detail: place,
+            }),
         }
     }
     judge.finish(list.len())

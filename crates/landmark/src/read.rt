@@ -97,18 +97,30 @@ pub fn read_element<'a>(list: &'a [u8], place: usize) -> Result<Read<'a>, Fault>
     ensures { λ r. ⌜ Reads (now (list .entry)) place r ⌝ }
 {
     if place > list.len() || list.len() - place < 2 {
-        return Err(Fault { refusal: Refusal::CutRecord, detail: place });
+        return Err(Fault {
+            refusal: Refusal::CutRecord,
+            detail: place,
+        });
     }
     let size = number_at(list, place) as usize;
     if list.len() - place - 2 < size {
-        return Err(Fault { refusal: Refusal::CutRecord, detail: place });
+        return Err(Fault {
+            refusal: Refusal::CutRecord,
+            detail: place,
+        });
     }
     if size < 2 {
-        return Err(Fault { refusal: Refusal::UnknownRecord, detail: place });
+        return Err(Fault {
+            refusal: Refusal::UnknownRecord,
+            detail: place,
+        });
     }
     let next = place + 2 + size;
     match read_body(number_at(list, place + 2), &list[place + 4..next]) {
         Ok(element) => Ok(Read { element, next }),
-        Err(refusal) => Err(Fault { refusal, detail: place }),
+        Err(refusal) => Err(Fault {
+            refusal,
+            detail: place,
+        }),
     }
 }

@@ -56,7 +56,7 @@ impl Refusal {
     pub fn layer(self) -> Layer
         ensures { λ r. ⌜ r ≡ layer-of self ⌝ }
     {
-        match self as u8 {
+        match self.number() {
             1..=8 => Layer::List,
             9..=11 => Layer::Table,
             _ => Layer::Scan,
@@ -66,11 +66,14 @@ impl Refusal {
     // What is wrong, in plain words.
     fn text(self) -> &'static str {
         match self {
-            Refusal::CutRecord => "the record is cut off: its length, or bytes that it counts, are missing",
+            Refusal::CutRecord =>
+                "the record is cut off: its length, or bytes that it counts, are missing",
             Refusal::UnknownRecord => "the record's length is below 2 or its kind is unknown",
             Refusal::WrongBodySize => "the size of the body does not fit the record's kind",
-            Refusal::BadValue => "the role is neither 1 nor 2, or the gap's counts are out of order or above 255",
-            Refusal::Misplaced => "a list begins with a start, a run follows each start, and each landmark ends with a run",
+            Refusal::BadValue =>
+                "the role is neither 1 nor 2, or the gap's counts are out of order or above 255",
+            Refusal::Misplaced =>
+                "a list begins with a start, a run follows each start, and each landmark ends with a run",
             Refusal::GapTooWide => "the operators in front of this run add up to more than 255",
             Refusal::TooMany => "a list has at most 32 landmarks and 64 runs",
             Refusal::NoSpace => "the record does not fit into the buffer",
@@ -99,7 +102,11 @@ impl Refusal {
             Refusal::TooManyRunBytes => "run bytes",
             Refusal::TableTooSmall => "entries needed",
             Refusal::EntryDiffers => "first at entry",
-            Refusal::OrderOut | Refusal::NoSuchLandmark | Refusal::NotAnEntry | Refusal::Barred | Refusal::NoEnd => "landmark",
+            Refusal::OrderOut
+            | Refusal::NoSuchLandmark
+            | Refusal::NotAnEntry
+            | Refusal::Barred
+            | Refusal::NoEnd => "landmark",
             Refusal::BadLength | Refusal::Overrun => "announced",
             Refusal::OtherWords => "first at word",
             Refusal::Idle => "detail",

@@ -17,7 +17,10 @@ impl Spacing {
     pub(crate) fn none() -> Spacing
         ensures { λ r. ⌜ r ≡ capped no-gap ⌝ }
     {
-        Spacing { least: 0, greatest: Some(0) }
+        Spacing {
+            least: 0,
+            greatest: Some(0),
+        }
     }
 
     // This gap, and one more behind it.
@@ -28,7 +31,10 @@ impl Spacing {
             (Some(a), Some(b)) => Some(a.saturating_add(b)),
             _ => None,
         };
-        Spacing { least: self.least.saturating_add(more.least), greatest }
+        Spacing {
+            least: self.least.saturating_add(more.least),
+            greatest,
+        }
     }
 
     // Whether a sum is wider than a gap may be.

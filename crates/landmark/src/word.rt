@@ -17,7 +17,10 @@ pub fn next_word<'a>(list: &'a [u8], place: usize) -> Option<Word<'a>>
     let mut at = place;
     while let Ok(read) = read_element(list, at) {
         if let Element::Run(bytes) = read.element {
-            return Some(Word { bytes, next: read.next });
+            return Some(Word {
+                bytes,
+                next: read.next,
+            });
         }
         at = read.next;
     }

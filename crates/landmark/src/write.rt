@@ -76,10 +76,16 @@ pub fn write_element(buffer: &mut [u8], place: usize, element: Element<'_>) -> R
 {
     let size = match body_size(element) {
         Ok(size) => size,
-        Err(refusal) => return Err(Fault { refusal, detail: place }),
+        Err(refusal) => return Err(Fault {
+            refusal,
+            detail: place,
+        }),
     };
     if place > buffer.len() || buffer.len() - place < 4 + size as usize {
-        return Err(Fault { refusal: Refusal::NoSpace, detail: place });
+        return Err(Fault {
+            refusal: Refusal::NoSpace,
+            detail: place,
+        });
     }
     put_number(buffer, place, 2 + size);
     put_number(buffer, place + 2, kind(element));

@@ -67,9 +67,12 @@ goes-from-behind g p (then w h rest) image e ((front, bytes, back, whole, stop, 
     let q : ℕ = length front + length w in
     let size : length (front ++ w ++ filler) ≡ q + length filler = simp length-append in
     let around : image ≡ front ++ (w ++ (filler ++ (more ++ back))) = whole ∙ ap (λ b. front ++ (b ++ back)) is ∙ simp append-assoc in
-    let gap-kept = keeps-allows h q (length filler) (length (front ++ w ++ filler)) size .1 allowed in
-    (q, ends-from-parts w image front (filler ++ (more ++ back)) q around refl, subst (Keeps g p) (omega arith) kept,
-     goes-from-behind h q rest image e ((front ++ w ++ filler, more, back, simp append-assoc around, omega (arith, simp length-append at (ap length is)), spelt), gap-kept))
+    let gap-kept = keeps-allows h q (length filler) (length (front ++ w ++ filler)) size .1 allowed in (
+      q,
+      ends-from-parts w image front (filler ++ (more ++ back)) q around refl,
+      subst (Keeps g p) (omega arith) kept,
+      goes-from-behind h q rest image e ((front ++ w ++ filler, more, back, simp append-assoc around, omega (arith, simp length-append at (ap length is)), spelt), gap-kept),
+    )
 
 -- the gap before a landmark's first word
 abbrev any-bytes : Gap
@@ -87,6 +90,7 @@ occurs-from-goes (then w g rest) image e (q, ends-here, kept, goes) = (q, ends-h
 
 -- an occurrence is a way to put the image together
 pub occurs-in-parts : Occurs-in-parts
-occurs-in-parts p image e =
-    (λ h. behind-from-goes any-bytes 0 p image e (goes-from-occurs p image e h) .0,
-     λ parts. occurs-from-goes p image e (goes-from-behind any-bytes 0 p image e (parts, (omega arith, tt))))
+occurs-in-parts p image e = (
+  λ h. behind-from-goes any-bytes 0 p image e (goes-from-occurs p image e h) .0,
+  λ parts. occurs-from-goes p image e (goes-from-behind any-bytes 0 p image e (parts, (omega arith, tt))),
+)

@@ -69,14 +69,14 @@ pub decides-goes-on : (g : Gap) (p : ℕ) (rest : Pattern) (image : List ℕ) (e
 decides-goes-on g p (last w) image e = decides-and _ _ (decides-ends w image e) (decides-keeps g p _)
 decides-goes-on g p (then w h rest) image e =
     decides-like _ (λ (q, s). (q, s .0, s .1, s .2)) (λ (q, a, b, c). (q, (a, b, c)))
-        (decides-some _ _ (λ q. decides-three _ _ _ (decides-ends w image q) (decides-keeps g p _) (decides-goes-on h q rest image e)) _ (λ q s. s .0 .1))
+    (decides-some _ _ (λ q. decides-three _ _ _ (decides-ends w image q) (decides-keeps g p _) (decides-goes-on h q rest image e)) _ (λ q s. s .0 .1))
 
 -- `occurs` decides whether a landmark has an occurrence with the end e
 pub decides-occurs : (p : Pattern) (image : List ℕ) (e : ℕ) → Decides (occurs p image e) (Occurs p image e)
 decides-occurs (last w) image e = decides-ends w image e
 decides-occurs (then w g rest) image e =
     decides-like _ (λ (q, s). (q, s .0, s .1)) (λ (q, a, b). (q, (a, b)))
-        (decides-some _ _ (λ q. decides-and _ _ (decides-ends w image q) (decides-goes-on g q rest image e)) _ (λ q s. s .0 .1))
+    (decides-some _ _ (λ q. decides-and _ _ (decides-ends w image q) (decides-goes-on g q rest image e)) _ (λ q s. s .0 .1))
 
 -- the rest of a landmark ends within the image
 pub goes-on-within : (g : Gap) (p : ℕ) (rest : Pattern) (image : List ℕ) (e : ℕ) → Goes-on g p rest image e → e ≤ length image
@@ -93,8 +93,8 @@ pub first-is-end : (p : Pattern) (image : List ℕ) (n e : ℕ) → ((d : ℕ) �
 first-is-end p image zero e among = λ d h. let l = among d h in omega arith
 first-is-end p image (suc n) e among =
     cond-both (occurs p image e) (Some e) (first-from n (suc e) (occurs p image)) (Is-end p image)
-        (λ passes. record { occurs = decides-occurs p image e .0 passes; least = λ d h. among d h .0 })
-        (λ fails. first-is-end p image n (suc e) (later fails))
+    (λ passes. record { occurs = decides-occurs p image e .0 passes; least = λ d h. among d h .0 })
+    (λ fails. first-is-end p image n (suc e) (later fails))
   where
     later : occurs p image e ≡ false → (d : ℕ) → Occurs p image d → (suc e ≤ d) × (d < suc e + n)
     later fails d h =

@@ -19,7 +19,10 @@ pub impl fmt::Display for Verdict as VerdictDisplay {
                 let landmarks = counts.landmarks;
                 let words = counts.words;
                 let run_bytes = counts.run_bytes;
-                write!(f, "landmarks {landmarks}, words {words}, run bytes {run_bytes}")
+                write!(
+                    f,
+                    "landmarks {landmarks}, words {words}, run bytes {run_bytes}"
+                )
             }
             Err(fault) => write!(f, "refused {fault}"),
         }
@@ -78,7 +81,13 @@ impl<'a> Listing<'a> {
             Ok(_) => list.len(),
             Err(fault) => fault.detail,
         };
-        Listing { list, place: 0, stop, starts: 0, runs: 0 }
+        Listing {
+            list,
+            place: 0,
+            stop,
+            starts: 0,
+            runs: 0,
+        }
     }
 }
 
@@ -103,6 +112,11 @@ pub impl<'a> Iterator for Listing<'a> as ListingIterator {
             Element::Run(_) => self.runs = self.runs.saturating_add(1),
             _ => {}
         }
-        Some(Line { place, landmark: self.starts.saturating_sub(1), word: self.runs.saturating_sub(1), element: read.element })
+        Some(Line {
+            place,
+            landmark: self.starts.saturating_sub(1),
+            word: self.runs.saturating_sub(1),
+            element: read.element,
+        })
     }
 }

@@ -25,9 +25,11 @@ returns-in-Run c =
     let l = c .args .list .now in
     let read = c .in-Ok .ensures tt in
     let fits = stands l (c .loop-read .at) _ (read .0) .fits in
-    let here = words-at-record l (c .loop-read .at) _ (read .0) in
-    (sym (c .loop-read .inv .0) ∙ here ∙ ap (λ e. runs-of (item e ∷ items-of (parts-from l (after l (c .loop-read .at))))) (c .in-Run .is) ∙ ap (λ p. c .in-Run .bytes .now ∷ words-from l p) (sym (read .1)),
-     omega arith, omega arith)
+    let here = words-at-record l (c .loop-read .at) _ (read .0) in (
+      sym (c .loop-read .inv .0) ∙ here ∙ ap (λ e. runs-of (item e ∷ items-of (parts-from l (after l (c .loop-read .at))))) (c .in-Run .is) ∙ ap (λ p. c .in-Run .bytes .now ∷ words-from l p) (sym (read .1)),
+      omega arith,
+      omega arith,
+    )
 
 pub loop-read-again : need.loop-read-again
 loop-read-again c =

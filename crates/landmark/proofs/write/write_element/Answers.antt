@@ -22,11 +22,11 @@ returns c =
     let fits : p + length (encoding i) ≤ length b = omega arith in
     let first : c .put-number .last .buffer ≡ put b p (as-two (2 + length (body-of i))) = c .put-number .ensures ∙ ap (λ n. put b p (as-two (2 + n))) size in
     let second : c .put-number-2 .last .buffer ≡ put b p (as-two (2 + length (body-of i)) ++ as-two (kind-of i)) =
-        c .put-number-2 .ensures ∙ ap (λ n. put (c .put-number .last .buffer) (p + 2) (as-two n)) (c .kind .ensures)
-        ∙ ap (λ l. put l (p + 2) (as-two (kind-of i))) first ∙ put-put b p (p + 2) (as-two (2 + length (body-of i))) (as-two (kind-of i)) start refl in
+    c .put-number-2 .ensures ∙ ap (λ n. put (c .put-number .last .buffer) (p + 2) (as-two n)) (c .kind .ensures)
+    ∙ ap (λ l. put l (p + 2) (as-two (kind-of i))) first ∙ put-put b p (p + 2) (as-two (2 + length (body-of i))) (as-two (kind-of i)) start refl in
     let whole : c .put-body .last .buffer ≡ put b p (encoding i) =
-        c .put-body .ensures ∙ ap (λ l. put l (p + 4) (body-of i)) second
-        ∙ put-put b p (p + 4) (as-two (2 + length (body-of i)) ++ as-two (kind-of i)) (body-of i) start refl in
+    c .put-body .ensures ∙ ap (λ l. put l (p + 4) (body-of i)) second
+    ∙ put-put b p (p + 4) (as-two (2 + length (body-of i)) ++ as-two (kind-of i)) (body-of i) start refl in
     let reads = put-reads b p i start (sized .0) in
     let next : p + 4 + c .in-Ok .size ≡ p + length (encoding i) = omega arith in
     let free : write-refusal b p i ≡ None = simp (sized .0) (grind (arith, tells)) in

@@ -10,11 +10,13 @@ use Rattle.landmark.proofs.judge.Judge.operator.Needs as need
 pub returns : need.returns
 returns c i o row h =
     let adds = adds-gap i row (o .sort) in
-    let free : row-refusal row S.Operator ≡ None = search needs in
-    (ap (row-refusal row) (o .sort) ∙ free,
-     record {
-       landmarks = h .landmarks ∙ sym (adds .landmarks);
-       words = h .words ∙ sym (adds .words);
-       run-bytes = h .run-bytes ∙ sym (adds .run-bytes);
-       newest = ap Some (sym (o .sort));
-       spacing = c .plus-self .ensures (gap-since row) (allowance i) (h .spacing) (o .allows) ∙ ap capped (sym (adds .spacing)) })
+    let free : row-refusal row S.Operator ≡ None = search needs in (
+      ap (row-refusal row) (o .sort) ∙ free,
+      record {
+        landmarks = h .landmarks ∙ sym (adds .landmarks);
+        words = h .words ∙ sym (adds .words);
+        run-bytes = h .run-bytes ∙ sym (adds .run-bytes);
+        newest = ap Some (sym (o .sort));
+        spacing = c .plus-self .ensures (gap-since row) (allowance i) (h .spacing) (o .allows) ∙ ap capped (sym (adds .spacing));
+      },
+    )
