@@ -37,7 +37,7 @@ both-assoc (Some m) None c = refl
 both-assoc (Some m) (Some n) None = refl
 both-assoc (Some m) (Some n) (Some k) = ap Some (add-assoc m n k)
 
-plus-assoc : (f g h : Gap) → plus (plus f g) h ≡ plus f (plus g h)
+pub plus-assoc : (f g h : Gap) → plus (plus f g) h ≡ plus f (plus g h)
 plus-assoc f g h =
     let low = add-assoc (f .least) (g .least) (h .least) in
     let high = both-assoc (f .greatest) (g .greatest) (h .greatest) in
@@ -47,7 +47,7 @@ both-none : (a : Option ℕ) → (both a (Some 0) ≡ a) × (both (Some 0) a ≡
 both-none None = (refl, refl)
 both-none (Some m) = (ap Some (add-zero m), ap Some (zero-add m))
 
-plus-none : (g : Gap) → (plus g no-gap ≡ g) × (plus no-gap g ≡ g)
+pub plus-none : (g : Gap) → (plus g no-gap ≡ g) × (plus no-gap g ≡ g)
 plus-none g =
     let low : ℕ → Option ℕ → Gap = λ n o. record { least = n; greatest = o } in
     let high = both-none (g .greatest) in (

@@ -33,13 +33,13 @@ abbrev Fit : Item → Type 0
 Fit i = unfit i ≡ None
 
 -- the records reach the list's end
-abbrev Complete : Parts → Type 0
+abbrev pub Complete : Parts → Type 0
 Complete ended = Unit {0}
 Complete (broken why p) = ⊥
 Complete (part p i rest) = Complete rest
 
 -- the row once more records are judged
-abbrev onto : List Item → Row → Row
+abbrev pub onto : List Item → Row → Row
 onto [] row = row
 onto (i ∷ is) row = onto is (i ∷ row)
 
@@ -52,7 +52,7 @@ finished true r f c e = (refl, cc)
 finished false r f c e = let z : _≡_ {A = ℕ} 0 1 = cc in absurd (omega arith)
 
 -- judging accepts exactly the complete records that are accepted as a row
-accepted-parts : (size : ℕ) (row : Row) (ps : Parts) (c : Counts) → judged size row ps ≡ Ok c → Complete ps × Accepts row (items-of ps) × (c ≡ counts (onto (items-of ps) row))
+pub accepted-parts : (size : ℕ) (row : Row) (ps : Parts) (c : Counts) → judged size row ps ≡ Ok c → Complete ps × Accepts row (items-of ps) × (c ≡ counts (onto (items-of ps) row))
 accepted-parts size row ended c e = let end = finished (ends-well (newest row)) (counts row) _ c e in (tt, end .0, end .1)
 accepted-parts size row (broken why p) c e = let z : _≡_ {A = ℕ} 0 1 = cc in absurd (omega arith)
 accepted-parts size row (part p i rest) c e =
@@ -216,18 +216,35 @@ fit-landmarks (m ∷ ms) (good, goods) = all-append Fit (landmark-items m) (list
 list-read : (l : List ℕ) (ms : List Landmark) → Is-list-of l ms → Read-as l 0 (list-items ms)
 list-read l ms is = covered-read (list-items ms) l 0 (fit-landmarks ms (is .well-formed .each)) (is .bytes)
 
-pub accepted-exactly : (l : List ℕ) (r : Result Counts Fault) → Bytes l → list-verdict l ≡ r → Accepted-exactly l r
-accepted-exactly l (Ok c) bytes e =
+-- the records of an accepted list are those of well-formed landmarks, which they are put together to
+record Made-of-landmarks (l : List ℕ) (c : Counts) : Type 0 where
+  list-of : Is-list-of l (landmarks-of l)
+  together : grouped (items-of (parts-from l 0)) ≡ record { steps = []; landmarks = landmarks-of l }
+  counts-is : c ≡ list-counts (landmarks-of l)
+
+made-of-landmarks : (l : List ℕ) (c : Counts) → Bytes l → list-verdict l ≡ Ok c → Made-of-landmarks l c
+made-of-landmarks l c bytes e =
     let items = items-of (parts-from l 0) in
     let a = accepted-parts (length l) [] (parts-from l 0) c e in
     let covers = complete-covers (suc (length l)) l 0 bytes (omega arith) (a .0) in
     let good = accepted-well-formed items (covers .0) (a .1) in
-    let again : grouped items ≡ record { steps = []; landmarks = landmarks-of l } = ap grouped (sym (good .1)) ∙ grouped-list (landmarks-of l) (good .0 .each) in (
-      record { well-formed = good .0; bytes = covers .1 ∙ ap (joined encoding) (sym (good .1)) },
-      a .2 ∙ counts-are items (landmarks-of l) again,
-      runs-grouped items ∙ ap words-of-groups again,
-      λ ms is. let read = list-read l ms is in
-          sym (ap (λ (g : Groups). g .landmarks) (ap grouped (read .items) ∙ grouped-list ms (is .well-formed .each))),
+    let again : grouped items ≡ record { steps = []; landmarks = landmarks-of l } = ap grouped (sym (good .1)) ∙ grouped-list (landmarks-of l) (good .0 .each) in
+    record {
+      list-of = record { well-formed = good .0; bytes = covers .1 ∙ ap (joined encoding) (sym (good .1)) };
+      together = again;
+      counts-is = a .2 ∙ counts-are items (landmarks-of l) again;
+    }
+
+pub accepted-together : (l : List ℕ) (c : Counts) → Bytes l → list-verdict l ≡ Ok c → grouped (items-of (parts-from l 0)) ≡ record { steps = []; landmarks = landmarks-of l }
+accepted-together l c bytes e = made-of-landmarks l c bytes e .together
+
+pub accepted-exactly : (l : List ℕ) (r : Result Counts Fault) → Bytes l → list-verdict l ≡ r → Accepted-exactly l r
+accepted-exactly l (Ok c) bytes e =
+    let made = made-of-landmarks l c bytes e in (
+      made .list-of,
+      made .counts-is,
+      runs-grouped (items-of (parts-from l 0)) ∙ ap words-of-groups (made .together),
+      λ ms is. sym (ap (λ (g : Groups). g .landmarks) (ap grouped (list-read l ms is .items) ∙ grouped-list ms (is .well-formed .each))),
     )
 accepted-exactly l (Err f) bytes e =
     λ ms is. let read = list-read l ms is in
@@ -235,3 +252,16 @@ accepted-exactly l (Err f) bytes e =
     let ok = parts-accepted (length l) [] (parts-from l 0) (read .complete) accepts in
     let z : _≡_ {A = ℕ} 0 1 = cc in
     omega arith
+
+-- every record of an accepted list is read, one after another
+pub accepted-complete : (l : List ℕ) (c : Counts) → list-verdict l ≡ Ok c → Complete (parts-from l 0)
+accepted-complete l c e = accepted-parts (length l) [] (parts-from l 0) c e .0
+
+pub complete-record : (l : List ℕ) (p : ℕ) (i : Item) → item-at l p ≡ Ok i → Complete (parts-from l p) → Complete (parts-from l (after l p))
+complete-record l p i e whole =
+    let fits = stands l p i e .fits in
+    subst Complete (parts-at-record l p i (omega arith) e) whole
+
+pub complete-fault : (l : List ℕ) (p : ℕ) (why : Refusal) → item-at l p ≡ Err why → Complete (parts-from l p) → parts-from l p ≡ ended
+complete-fault l p why e whole =
+    ⊎-elim (λ before. absurd (subst Complete (parts-at-fault l p why before e) whole)) (λ past. parts-at-end l p past) (cases-lt p (length l))

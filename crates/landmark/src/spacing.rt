@@ -14,7 +14,7 @@ pub struct Spacing {
 
 impl Spacing {
     // The gap of nothing.
-    pub(crate) fn none() -> Spacing
+    pub fn none() -> Spacing
         ensures { λ r. ⌜ r ≡ capped no-gap ⌝ }
     {
         Spacing {
@@ -24,7 +24,7 @@ impl Spacing {
     }
 
     // This gap, and one more behind it.
-    pub(crate) fn plus(self, more: Spacing) -> Spacing
+    pub fn plus(self, more: Spacing) -> Spacing
         ensures { λ r. ⌜ ((g h : Gap) → self ≡ capped g → more ≡ capped h → r ≡ capped (plus g h)) ⌝ }
     {
         let greatest = match (self.greatest, more.greatest) {

@@ -1,0 +1,4 @@
+pub mod HalfRead
+pub mod Masks
+pub mod Joining
+pub mod Hearing

@@ -1,0 +1,4 @@
+pub mod Words
+pub mod Meaning
+pub mod Joined
+pub mod Samples

@@ -1,0 +1,2 @@
+pub mod ReadingLaws
+pub mod Asking
