@@ -7,3 +7,4 @@ pub use self::finder::Finder;
 pub use self::finder::MOST_WORDS;
 pub use law::hear;
 pub use pair::Pair;
+pub use pair::PairFinder;

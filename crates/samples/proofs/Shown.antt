@@ -20,4 +20,8 @@ shown = record {
   start-alone = refl;
   widest-gaps = refl;
   wider-gaps = refl;
+  answers = refl;
+  shift-numbers = refl;
+  back-links = refl;
+  masks = refl;
 }

@@ -1,0 +1,5 @@
+// Tests of finders on examples.
+#[cfg(test)]
+mod pairs;
+#[cfg(test)]
+mod shifts;

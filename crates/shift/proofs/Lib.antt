@@ -1,0 +1,12 @@
+pub mod Bits
+pub mod Numbers
+pub mod Gathering
+pub mod Admission
+pub mod Filling
+pub mod Edging
+pub mod Resting
+pub mod MountLaws
+pub mod Lowest
+pub mod Ending
+pub mod Clearing
+pub mod Stepping
