@@ -160,7 +160,7 @@ so-far-end p front ms small f =
     }
 
 -- a landmark has as many seats as words
-length-seats-from : (n m : ℕ) (p : Pattern) (j : ℕ) → length (seats-from n m p j) ≡ n
+pub length-seats-from : (n m : ℕ) (p : Pattern) (j : ℕ) → length (seats-from n m p j) ≡ n
 length-seats-from zero m p j = refl
 length-seats-from (suc n) m p j = ap suc (length-seats-from n m p (suc j))
 
