@@ -71,24 +71,26 @@ stands m [] k s e = let z : _≡_ {A = ℕ} 0 1 = cc in absurd (omega arith)
 stands m (x ∷ xs) k s e =
     ⊎-elim
     (λ (here, is). subst (λ (u : Seat). Stands m (x ∷ xs) k u) is (record {
-        offset = 0;
-        number = sym (zero-add k);
-        within = omega arith;
-        each = λ j h. ap (nth (seats m (x ∷ xs))) (zero-add j) ∙ own-seat m x xs j (omega arith);
-        after = λ t there. first-seat (suc m) xs t (sym (later-seat m x xs 0 (0 + suc (more-words (pattern-of x))) (omega arith)) ∙ there);
-        from = omega arith;
-        landmark = (x, ap (nth (x ∷ xs)) {y = 0} (omega arith), refl) }))
+      offset = 0;
+      number = sym (zero-add k);
+      within = omega arith;
+      each = λ j h. ap (nth (seats m (x ∷ xs))) (zero-add j) ∙ own-seat m x xs j (omega arith);
+      after = λ t there. first-seat (suc m) xs t (sym (later-seat m x xs 0 (0 + suc (more-words (pattern-of x))) (omega arith)) ∙ there);
+      from = omega arith;
+      landmark = (x, ap (nth (x ∷ xs)) {y = 0} (omega arith), refl);
+    }))
     (λ (past, there). let later = stands (suc m) xs (k - suc (more-words (pattern-of x))) s there in
-      let n = suc (more-words (pattern-of x)) in
-      let step : s .landmark - m ≡ suc (s .landmark - suc m) = omega (arith, later .from) in
-      record {
-        offset = n + later .offset;
-        number = omega (arith, later .number);
-        within = later .within;
-        each = λ j h. later-seat m x xs (later .offset + j) (n + later .offset + j) (omega arith) ∙ later .each j h;
-        after = λ t is. later .after t (sym (later-seat m x xs (later .offset + suc (more-words (s .pattern))) (n + later .offset + suc (more-words (s .pattern))) (omega arith)) ∙ is);
-        from = omega (arith, later .from);
-        landmark = (later .landmark .0, ap (nth (x ∷ xs)) step ∙ later .landmark .1, later .landmark .2) })
+    let n = suc (more-words (pattern-of x)) in
+    let step : s .landmark - m ≡ suc (s .landmark - suc m) = omega (arith, later .from) in
+    record {
+      offset = n + later .offset;
+      number = omega (arith, later .number);
+      within = later .within;
+      each = λ j h. later-seat m x xs (later .offset + j) (n + later .offset + j) (omega arith) ∙ later .each j h;
+      after = λ t is. later .after t (sym (later-seat m x xs (later .offset + suc (more-words (s .pattern))) (n + later .offset + suc (more-words (s .pattern))) (omega arith)) ∙ is);
+      from = omega (arith, later .from);
+      landmark = (later .landmark .0, ap (nth (x ∷ xs)) step ∙ later .landmark .1, later .landmark .2);
+    })
     (own-or-later m x xs k s e)
 
 -- a word is told by its landmark and its index there
@@ -97,11 +99,11 @@ one-seat m [] k i s t at-k at-i same-landmark same-index = let z : _≡_ {A = �
 one-seat m (x ∷ xs) k i s t at-k at-i same-landmark same-index =
     ⊎-elim
     (λ (_, is-s). ⊎-elim
-      (λ (_, is-t). omega (arith, ap (λ (u : Seat). u .index) is-s, ap (λ (u : Seat). u .index) is-t))
-      (λ (_, there). absurd (omega (arith, ap (λ (u : Seat). u .landmark) is-s, stands (suc m) xs _ t there .from)))
-      (own-or-later m x xs i t at-i))
+    (λ (_, is-t). omega (arith, ap (λ (u : Seat). u .index) is-s, ap (λ (u : Seat). u .index) is-t))
+    (λ (_, there). absurd (omega (arith, ap (λ (u : Seat). u .landmark) is-s, stands (suc m) xs _ t there .from)))
+    (own-or-later m x xs i t at-i))
     (λ (past-k, there-k). ⊎-elim
-      (λ (_, is-t). absurd (omega (arith, ap (λ (u : Seat). u .landmark) is-t, stands (suc m) xs _ s there-k .from)))
-      (λ (past-i, there-i). omega (arith, one-seat (suc m) xs _ _ s t there-k there-i same-landmark same-index))
-      (own-or-later m x xs i t at-i))
+    (λ (_, is-t). absurd (omega (arith, ap (λ (u : Seat). u .landmark) is-t, stands (suc m) xs _ s there-k .from)))
+    (λ (past-i, there-i). omega (arith, one-seat (suc m) xs _ _ s t there-k there-i same-landmark same-index))
+    (own-or-later m x xs i t at-i))
     (own-or-later m x xs k s at-k)

@@ -1,11 +1,9 @@
 -- What it says that a list and a table go together.
-use mathlib.Core.Path.{_≡_, refl, sym, ap, subst, _∙_}
-use mathlib.Core.Bool.{Bool, true, false, cond}
+use mathlib.Core.Path.{_≡_, refl}
 use mathlib.Core.List.{List}
 use Prim.Native.Nat.{ℕ, _≤_}
 use native.Mathlib.Omega.{arith}
-use lib.Dec.{ltb}
-use Rattle.std.specs.declared.option.Option.the-variants.{Some, None}
+use Rattle.std.specs.declared.option.Option.the-variants.{None}
 use Rattle.std.specs.declared.result.Result.{Result}
 use Rattle.std.specs.declared.result.Result.the-variants.{Ok, Err}
 use Rattle.std.proofs.shelf.Ways.{tells}
@@ -28,6 +26,7 @@ pub record Admitted (l : List ℕ) (numbers : ℕ) (w : Words) : Type 0 where
   pub narrow : sizes (indexed w) ≤ most-run-bytes
   pub enough : entries ≤ numbers
 
+-- by the verdict on the list
 admitted-by : (l : List ℕ) (numbers : ℕ) (w : Words) (verdict : Result Counts Fault) → list-verdict l ≡ verdict → fault-of verdict numbers ≡ None → Indexes l w → Admitted l numbers w
 admitted-by l numbers w (Ok counts) is none index =
     let (few, enough) = sizes-fit counts numbers none in
@@ -35,6 +34,7 @@ admitted-by l numbers w (Ok counts) is none index =
     record { words = words; narrow = omega arith; enough = enough }
 admitted-by l numbers w (Err f) is none index = let z : _≡_ {A = ℕ} 0 1 = cc in absurd (omega arith)
 
+-- so of each list that is admitted
 pub admitted : (l : List ℕ) (numbers : ℕ) (w : Words) → admission-fault l numbers ≡ None → Indexes l w → Admitted l numbers w
 admitted l numbers w none index = admitted-by l numbers w (list-verdict l) refl none index
 
@@ -43,5 +43,6 @@ enough-by : (verdict : Result Counts Fault) (numbers : ℕ) → fault-of verdict
 enough-by (Ok counts) numbers none = sizes-fit counts numbers none .1
 enough-by (Err f) numbers none = let z : _≡_ {A = ℕ} 0 1 = cc in absurd (omega arith)
 
+-- so where nothing is refused
 pub admitted-sizes : (l : List ℕ) (numbers : ℕ) → admission-fault l numbers ≡ None → entries ≤ numbers
 admitted-sizes l numbers none = enough-by (list-verdict l) numbers none

@@ -1,8 +1,8 @@
 -- Going over the set bits of a number from the lowest on, one word to each.
 use mathlib.Core.Path.{_≡_, sym, ap, _∙_}
-use mathlib.Core.Bool.{true, _&&_}
+use mathlib.Core.Bool.{true}
 use mathlib.Core.List.{List}
-use Prim.Native.Nat.{ℕ, _+_, _-_, _*_, _%_, _^_, _≤_, _<_}
+use Prim.Native.Nat.{ℕ, _-_, _*_, _%_, _^_, _<_}
 use native.Mathlib.Omega.{arith}
 use lib.Bits.{bitAnd, bitOr}
 use lib.Count.{ones, trailingZeros}
@@ -25,6 +25,7 @@ only-lasts r lasts p set = and-parts (bit r p) (bit lasts p) (sym (bit-and r las
 pub only-still : (left other lasts : ℕ) → Only-lasts lasts left → Only-lasts lasts (bitAnd left other)
 only-still left other lasts only p set = only p (and-parts (bit left p) (bit other p) (sym (bit-and left other p) ∙ set) .0)
 
+-- some bits are left, of the last bytes of these words
 module _ (ws : List (List ℕ)) (lasts left : ℕ) (some : Some-bytes ws) (is : lasts ≡ lasts-of ws) (only : Only-lasts lasts left) (more : 0 < left) (small : left < 2 ^ 64) where
   -- the bits below the lowest
   below : bitAnd lasts (1 * 2 ^ trailingZeros 64 left % 2 ^ 64 - 1) ≡ lasts-of ws % 2 ^ trailingZeros 64 left
@@ -33,7 +34,7 @@ module _ (ws : List (List ℕ)) (lasts left : ℕ) (some : Some-bytes ws) (is : 
       ap (λ (n : ℕ). bitAnd lasts (n - 1)) (one-shl p 64 (lowest left more small .place)) ∙ and-mask lasts p ∙ ap (λ (n : ℕ). n % 2 ^ p) is
 
   -- so many words end before it
-  pub word-small : ones (bitAnd lasts (1 * 2 ^ trailingZeros 64 left % 2 ^ 64 - 1)) < 64
+  word-small : ones (bitAnd lasts (1 * 2 ^ trailingZeros 64 left % 2 ^ 64 - 1)) < 64
   word-small =
       let p = trailingZeros 64 left in
       omega (arith, ap ones below, ones-le p (lasts-of ws % 2 ^ p) (mod-below (lasts-of ws) (2 ^ p) (pow-pos p)), lowest left more small .place)
@@ -53,7 +54,3 @@ module _ (ws : List (List ℕ)) (lasts left : ℕ) (some : Some-bytes ws) (is : 
       let rest = ended 0 ws (bitAnd left (left - 1)) in
       let one = one-shl _ 64 word-small ∙ ap (λ (n : ℕ). 2 ^ ones n) below in
       ap (λ (n : ℕ). bitOr (bitOr mask n) rest) one ∙ or-assoc mask _ rest ∙ ap (bitOr mask) (sym lowest-word)
-
-  -- which is less
-  pub cleared-less : bitAnd left (left - 1) < left
-  cleared-less = lowest left more small .less

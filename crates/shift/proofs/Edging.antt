@@ -1,13 +1,13 @@
 -- Gathering where the words begin and end, word by word.
 use mathlib.Core.Path.{_≡_, sym, ap, subst, _∙_}
 use mathlib.Core.List.{List, [], _∷_}
-use Prim.Native.Nat.{ℕ, suc, _+_, _-_, _*_, _%_, _^_, _≤_, _<_}
+use Prim.Native.Nat.{ℕ, _+_, _-_, _*_, _%_, _^_, _≤_, _<_}
 use native.Mathlib.Nat.{lt-of-lt-of-le}
 use native.Mathlib.Omega.{arith}
 use lib.Bits.{bitOr, or-shifted-r}
 use lib.ListN.{length, getD, drop}
 use lib.Pow.{pow-mono, pow-add}
-use Rattle.std.proofs.shelf.Bits.{one-shl, pow-pos}
+use Rattle.std.proofs.shelf.Bits.{one-shl}
 use Rattle.std.proofs.shelf.Lists.{drop-more, drop-all}
 use Rattle.landmark.specs.Grammar.{sizes}
 use Rattle.shift.specs.Register.{firsts-of, lasts-of}
@@ -20,6 +20,7 @@ pub record Edged (ws : List (List ℕ)) (firsts lasts p : ℕ) (rest : List (Lis
   pub ends : lasts + 2 ^ p * lasts-of rest ≡ lasts-of ws
   pub place : p + sizes rest ≡ sizes ws
 
+-- before the first word nothing is gathered
 pub edged-none : (ws : List (List ℕ)) → Edged ws 0 0 0 ws
 edged-none ws = record { small = omega arith; little = omega arith; begins = omega arith; ends = omega arith; place = omega arith }
 

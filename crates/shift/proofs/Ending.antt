@@ -3,10 +3,10 @@ use mathlib.Core.Path.{_≡_, refl, sym, ap, subst, _∙_}
 use mathlib.Core.Bool.{Bool, true, false, _&&_, _||_}
 use mathlib.Core.List.{List, [], _∷_}
 use mathlib.Core.Logic.{⊎-elim}
-use Prim.Native.Nat.{ℕ, zero, suc, _+_, _-_, _*_, _/_, _%_, _^_, _≤_, _<_, max}
+use Prim.Native.Nat.{ℕ, suc, _+_, _-_, _*_, _/_, _%_, _^_, _<_, max}
 use native.Mathlib.Nat.{add-mul-div-left, add-mul-mod-self-left, mul-mod-right, div-eq-of-lt, mod-eq-of-lt, pow-succ'}
 use native.Mathlib.Omega.{arith}
-use lib.Bits.{bitAnd, bitOr, or-step}
+use lib.Bits.{bitOr, or-step}
 use lib.Count.{ones, ones-cat}
 use lib.ListN.{length, getD}
 use Rattle.std.proofs.shelf.Bits.{pow-pos, pow-below, mod-pow-add}
@@ -16,7 +16,7 @@ use Rattle.finder.specs.Words.{passing, holds, mask}
 use Rattle.finder.proofs.HalfRead.{decides-passing}
 use Rattle.landmark.specs.Grammar.{sizes}
 use Rattle.shift.specs.Register.{bit, is-half, halves-from, lasts-of}
-use Rattle.shift.proofs.Bits.{digit, digit-small, bit-zero, bit-low, bit-high, bit-own, bit-other, bit-and, bit-or}
+use Rattle.shift.proofs.Bits.{digit, digit-small, bit-zero, bit-low, bit-high, bit-own, bit-other, bit-or}
 
 -- no word is empty
 abbrev pub Some-bytes : List (List ℕ) → Type 0
@@ -32,6 +32,7 @@ last-half : (r start : ℕ) (w : List ℕ) → 0 < length w → is-half r start 
 last-half r start [] some = absurd (omega arith)
 last-half r start (x ∷ xs) some = ap (bit r) (omega arith)
 
+-- so its whole length is half-read exactly if that bit is set
 whole : (r start : ℕ) (w : List ℕ) → 0 < length w → holds (length w) (passing (suc (length w)) 0 (is-half r start)) ≡ bit r (start + length w - 1)
 whole r start w some =
     same-from-decides _ _ (decides-like _ (λ (from, below, passes). passes) (λ passes. (omega arith, omega arith, passes)) (decides-passing (is-half r start) (length w) (suc (length w)) 0)) (λ e. e, λ e. e)
@@ -50,6 +51,7 @@ pub ended-none : (start : ℕ) (ws : List (List ℕ)) → ended start ws 0 ≡ 0
 ended-none start [] = refl
 ended-none start (w ∷ ws) = let first = bit-zero (start + length w - 1) in let rest = ended-none (start + length w) ws in ap (λ t. digit t + 2 * ended (start + length w) ws 0) first ∙ omega arith
 
+-- the greater of two digits
 max-digits : (t u : Bool) → max (digit t) (digit u) ≡ digit (t || u)
 max-digits true true = refl
 max-digits true false = refl
@@ -77,10 +79,11 @@ ended-or start (w ∷ ws) a b =
     let rest = ended-or (start + length w) ws a b in
     ap (λ t. digit t + 2 * ended (start + length w) ws (bitOr a b)) this ∙ ap (λ (n : ℕ). digit (bit a at || bit b at) + 2 * n) rest ∙ sym (or-digits (bit a at) (bit b at) (ended (start + length w) ws a) (ended (start + length w) ws b))
 
--- the last bit of a word, and the last bits of the words behind it
+-- the last bit of a word
 last-bit : (w : List ℕ) (ws : List (List ℕ)) → 0 < length w → bit (lasts-of (w ∷ ws)) (length w - 1) ≡ true
 last-bit w ws some = bit-low (2 ^ (length w - 1)) (length w) (lasts-of ws) (length w - 1) (omega arith) ∙ bit-own (length w - 1)
 
+-- and the last bits of the words behind it
 later-bit : (w : List ℕ) (ws : List (List ℕ)) (q : ℕ) → 0 < length w → bit (lasts-of (w ∷ ws)) (length w + q) ≡ bit (lasts-of ws) q
 later-bit w ws q some = bit-high (2 ^ (length w - 1)) (length w) (lasts-of ws) q (pow-below (length w - 1) (length w) (omega arith))
 
@@ -111,15 +114,17 @@ ended-before start p (w ∷ ws) some before =
     let rest = ended-before (start + length w) p ws (λ k within. some (suc k) (omega arith)) (omega arith) in
     ap (λ t. digit t + 2 * ended (start + length w) ws (2 ^ p)) this ∙ omega arith
 
--- one set bit counts once
+-- 0 has no bits
 ones-zero : ones 0 ≡ 0
 unfolding ones
 ones-zero = refl
 
+-- 1 has one bit
 ones-one : ones 1 ≡ 1
 unfolding ones
 ones-one = refl
 
+-- and so has every power of two
 ones-pow : (n : ℕ) → ones (2 ^ n) ≡ 1
 ones-pow n = ap ones (omega arith) ∙ ones-cat n 1 0 (pow-pos n) ∙ omega (arith, ones-one, ones-zero)
 

@@ -1,8 +1,8 @@
 -- Gathering the number of a byte value, byte by byte.
 use mathlib.Core.Path.{_≡_, refl, sym, ap, subst, _∙_}
-use mathlib.Core.Bool.{Bool, true, false, cond}
+use mathlib.Core.Bool.{cond}
 use mathlib.Core.List.{List, [], _∷_, _++_}
-use Prim.Native.Nat.{ℕ, suc, _+_, _*_, _%_, _^_, _<_}
+use Prim.Native.Nat.{ℕ, _+_, _*_, _%_, _^_, _<_}
 use native.Mathlib.Nat.{pow-succ'}
 use native.Mathlib.Numerals.{add-one}
 use native.Mathlib.Omega.{arith}
@@ -30,9 +30,11 @@ pub record Gathered (all : List ℕ) (c bits p : ℕ) (rest : List ℕ) : Type 0
   pub sum : bits + 2 ^ p * number-of rest c ≡ number-of all c
   pub place : p + length rest ≡ length all
 
+-- before the first byte nothing is gathered
 pub gathered-none : (all : List ℕ) (c : ℕ) → Gathered all c 0 0 all
 gathered-none all c = record { small = omega arith; sum = omega arith; place = omega arith }
 
+-- behind the last byte the number is
 pub gathered-all : (all : List ℕ) (c bits p : ℕ) → Gathered all c bits p [] → bits ≡ number-of all c
 gathered-all all c bits p g = omega (arith, g .sum)
 

@@ -1,7 +1,7 @@
 -- The lowest set bit of a number, and the number without it.
 use mathlib.Core.Path.{_≡_, refl, sym, ap, subst, _∙_}
 use mathlib.Core.Bool.{true}
-use Prim.Native.Nat.{ℕ, zero, suc, _+_, _-_, _*_, _/_, _%_, _^_, _≤_, _<_}
+use Prim.Native.Nat.{ℕ, zero, suc, _+_, _-_, _*_, _/_, _%_, _^_, _<_}
 use native.Mathlib.Nat.{pow-succ'}
 use native.Mathlib.Omega.{arith}
 use lib.Bits.{bitAnd, bitOr, and-block, and-shifted, and-self, or-shifted-r}
@@ -40,7 +40,6 @@ pub record Lowest (n p : ℕ) : Type 0 where
   pub place : p < 64
   pub set : bit n p ≡ true
   pub is : n ≡ bitOr (2 ^ p) (bitAnd n (n - 1))
-  pub less : bitAnd n (n - 1) < n
 
 -- a number less 1 has the bits above the lowest, and all below it
 less-one : (p q : ℕ) → bitAnd (2 ^ p + 2 ^ suc p * q) (2 ^ p + 2 ^ suc p * q - 1) ≡ q * 2 ^ suc p
@@ -53,6 +52,7 @@ less-one p q =
     ap (λ (x : ℕ). bitAnd x (2 ^ p + 2 ^ suc p * q - 1)) (omega arith) ∙ ap (bitAnd (q * 2 ^ suc p + 2 ^ p)) (omega arith) ∙ block
     ∙ ap (λ (x : ℕ). x * 2 ^ suc p + bitAnd (2 ^ p) (2 ^ p - 1)) same ∙ ap (λ (x : ℕ). q * 2 ^ suc p + x) low ∙ omega arith
 
+-- so its lowest bit comes off
 lowest-at : (p q : ℕ) → p < 64 → Lowest (2 ^ p + 2 ^ suc p * q) p
 lowest-at p q place =
     let some = pow-pos p in
@@ -63,7 +63,6 @@ lowest-at p q place =
       place = place;
       set = bit-low (2 ^ p) (suc p) q p (omega arith) ∙ bit-own p;
       is = sym (ap (bitOr (2 ^ p)) less ∙ joined ∙ omega arith);
-      less = rw less (omega arith);
     }
 
 -- the trailing zeros of a number count up to its lowest bit

@@ -1,20 +1,19 @@
 -- Mounting, from the parts of its code, and that what was built is accepted.
 use mathlib.Core.Path.{_≡_, refl, sym, ap, subst, _∙_}
-use mathlib.Core.List.{List, _++_}
-use mathlib.Core.Logic.{_⊎_, inl, inr}
+use mathlib.Core.List.{List}
+use mathlib.Core.Logic.{inl, inr}
 use Prim.Native.Nat.{ℕ, _≤_, _<_}
 use native.Mathlib.Omega.{arith}
 use lib.ListN.{length, getD, take, drop}
 use Rattle.std.proofs.shelf.Counted.{length-map-counting, fill-by-all}
 use Rattle.std.proofs.shelf.Lists.{length-append, length-drop, length-take-le, getD-take}
-use Rattle.std.specs.declared.option.Option.the-variants.{Some, None}
 use Rattle.std.specs.declared.result.Result.{Result}
 use Rattle.std.specs.declared.result.Result.the-variants.{Ok, Err}
 use Rattle.landmark.specs.Grammar.{words-of}
 use Rattle.landmark.specs.declared.refusal.Fault.{Fault}
 use Rattle.shift.specs.Table.{entries, all-bytes, number-of, table-of}
 use Rattle.shift.specs.Building.{admission-fault, Builds}
-use Rattle.shift.specs.Comparing.{Right-at, First-wrong}
+use Rattle.shift.specs.Comparing.{Right-at}
 use Rattle.shift.specs.Mounting.{Refuses, Mounts, Accepts-built}
 use Rattle.shift.specs.declared.shift.ShiftFinder.{ShiftFinder}
 use Rattle.shift.proofs.Admission.{admitted-sizes}

@@ -1,17 +1,13 @@
 -- The bits of the numbers of a table.
-use mathlib.Core.Path.{_≡_, refl, sym, ap, subst, _∙_}
-use mathlib.Core.Bool.{Bool, true, false, _&&_}
-use mathlib.Core.List.{List, [], _∷_, _++_, map}
-use Prim.Native.Nat.{ℕ, zero, suc, _+_, _*_, _^_, _<_}
-use native.Mathlib.Nat.{pow-succ'}
+use mathlib.Core.Path.{_≡_, sym, subst, _∙_}
+use mathlib.Core.Bool.{_&&_}
+use mathlib.Core.List.{List, [], _∷_, _++_}
+use Prim.Native.Nat.{ℕ, zero, suc, _+_, _<_}
 use native.Mathlib.Omega.{arith}
 use lib.Dec.{eqb, ltb}
-use lib.ListN.{length, getD, drop}
-use Rattle.std.specs.Iters.{counting}
-use Rattle.std.specs.Orderings.{Decides}
+use lib.ListN.{length, getD}
 use Rattle.std.proofs.shelf.Counted.{getD-map-counting, length-map-counting}
 use Rattle.std.proofs.shelf.Lists.{getD-append-left}
-use Rattle.std.proofs.shelf.Tests.{and-left}
 use Rattle.std.proofs.shelf.Ways.{decides-eqb, decides-ltb, decides-and, decides-at, tells}
 use Rattle.finder.specs.Meaning.{Exactly-if, Bit}
 use Rattle.shift.specs.Table.{entries, all-bytes, number-of, table-of, Tells-places}

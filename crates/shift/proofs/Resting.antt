@@ -1,5 +1,5 @@
 -- A register of zeros is at rest.
-use mathlib.Core.Path.{_≡_, refl, ap, _∙_}
+use mathlib.Core.Path.{_≡_, refl, _∙_}
 use mathlib.Core.List.{List, [], _∷_}
 use Prim.Native.Nat.{ℕ, zero, suc, _+_}
 use lib.ListN.{length}
@@ -13,6 +13,7 @@ none-half : (start n h : ℕ) → passing n (suc h) (is-half 0 start) ≡ []
 none-half start zero h = refl
 none-half start (suc n) h = cond-false _ _ _ (bit-zero (start + h)) ∙ none-half start n (suc h)
 
+-- so only 0 is, of every word
 pub halves-at-rest : (start : ℕ) (ws : List (List ℕ)) → halves-from start ws 0 ≡ at-rest ws
 halves-at-rest start [] = refl
 halves-at-rest start (w ∷ ws) = let first = none-half start (length w) 0 in let rest = halves-at-rest (start + length w) ws in cc

@@ -20,28 +20,32 @@ use Rattle.shift.proofs.Bits.{bit-and, bit-or, bit-cut, bit-low, bit-high, bit
 use Rattle.shift.proofs.Ending.{Some-bytes}
 use Rattle.shift.proofs.Numbers.{number-bit}
 
--- the bits of a number at a word, and at the words behind it
+-- the bits of a number at a word
 number-left : (w bs : List ℕ) (c h : ℕ) → h < length w → bit (number-of (w ++ bs) c) h ≡ eqb (getD w h 0) c
 number-left w bs c h within =
     let size = length-append w bs in
     number-bit (w ++ bs) c h ∙ ap (λ t. t && eqb (getD (w ++ bs) h 0) c) (lt-ltb h (length (w ++ bs)) (omega arith)) ∙ ap (λ (b : ℕ). eqb b c) (getD-append-left w bs 0 h within)
 
+-- and at the words behind it
 number-right : (w bs : List ℕ) (c p : ℕ) → bit (number-of (w ++ bs) c) (length w + p) ≡ bit (number-of bs c) p
 number-right w bs c p =
     let size = length-append w bs in
     let same : ltb (length w + p) (length (w ++ bs)) ≡ ltb p (length bs) = grind (arith, tells) in
     number-bit (w ++ bs) c (length w + p) ∙ ap (λ t. t && eqb (getD (w ++ bs) (length w + p) 0) c) same ∙ ap (λ (b : ℕ). ltb p (length bs) && eqb b c) (getD-append-add w bs p 0) ∙ sym (number-bit bs c p)
 
--- the first bits at a word, and at the words behind it
+-- the first bit of a word
 first-bit : (w : List ℕ) (ws : List (List ℕ)) → 0 < length w → bit (firsts-of (w ∷ ws)) 0 ≡ true
 first-bit w ws some = bit-low 1 (length w) (firsts-of ws) 0 some
 
+-- no other bit of a word is its first
 no-first-bit : (w : List ℕ) (ws : List (List ℕ)) (h : ℕ) → suc h < length w → bit (firsts-of (w ∷ ws)) (suc h) ≡ false
 no-first-bit w ws h within = bit-low 1 (length w) (firsts-of ws) (suc h) within ∙ bit-other 0 (suc h) (λ e. omega arith)
 
+-- and the first bits of the words behind it
 later-first-bit : (w : List ℕ) (ws : List (List ℕ)) (p : ℕ) → 0 < length w → bit (firsts-of (w ∷ ws)) (length w + p) ≡ bit (firsts-of ws) p
 later-first-bit w ws p some = bit-high 1 (length w) (firsts-of ws) p (pow-below 0 (length w) some)
 
+-- an or with nothing
 or-false : (t : Bool) → (t || false) ≡ t
 or-false true = refl
 or-false false = refl

@@ -1,7 +1,7 @@
 -- Words by their places, and one more.
-use mathlib.Core.Path.{_≡_, refl, sym, ap, subst, _∙_}
+use mathlib.Core.Path.{_≡_, sym, subst, _∙_}
 use mathlib.Core.List.{List, [], _∷_, _++_, map}
-use mathlib.Core.Logic.{_≢_, ⊎-elim}
+use mathlib.Core.Logic.{⊎-elim}
 use Prim.Native.Nat.{ℕ, suc, _+_, _*_, _≤_, _<_}
 use native.Mathlib.Omega.{arith}
 use lib.ListN.{length, getD, set}
@@ -30,18 +30,21 @@ sizes-most most (w ∷ ws) each =
     let rest = sizes-most most ws (λ k within. each (suc k) (omega arith)) in
     omega arith
 
+-- a word put behind the others
 module _ (l places lengths : List ℕ) (count place size : ℕ) (room : count < length places) (also : count < length lengths) where
-  -- a word put behind the others has its place and its size
+  -- it has its place
   put-place : getD (set places count place) count 0 ≡ place
   put-place = getD-set-same places count place 0 room
 
+  -- and its size
   put-size : getD (set lengths count size) count 0 ≡ size
   put-size = getD-set-same lengths count size 0 also
 
-  -- and leaves the others theirs
+  -- the others keep their places
   kept-place : (k : ℕ) → k < count → getD (set places count place) k 0 ≡ getD places k 0
   kept-place k before = getD-set-other places count k place 0 (λ e. omega arith)
 
+  -- and their sizes
   kept-size : (k : ℕ) → k < count → getD (set lengths count size) k 0 ≡ getD lengths k 0
   kept-size k before = getD-set-other lengths count k size 0 (λ e. omega arith)
 

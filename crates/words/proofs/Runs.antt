@@ -1,19 +1,18 @@
 -- The runs of a list, by their places.
-use mathlib.Core.Path.{_≡_, refl, sym, ap, subst, _∙_}
+use mathlib.Core.Path.{_≡_, refl, sym, ap, _∙_}
 use mathlib.Core.List.{List, [], _∷_, _++_}
-use mathlib.Core.Bool.{true}
 use mathlib.Core.Logic.{_⊎_, inl, inr, ⊎-elim}
 use Prim.Native.Nat.{ℕ, _+_, _-_, _≤_, _<_}
 use native.Mathlib.Omega.{arith}
 use denote.Ref.{RefT, now}
-use lib.ListN.{length, getD, take, drop}
+use lib.ListN.{length, take, drop}
 use Rattle.std.proofs.shelf.Lists.{getD-take, getD-drop, getD-past, length-take, take-all, take-at, append-nil}
 use Rattle.std.proofs.shelf.Tests.{cases-lt}
 use Rattle.std.proofs.shelf.Ways.{tells}
 use Rattle.std.specs.declared.option.Option.the-variants.{None}
 use Rattle.std.specs.declared.result.Result.the-variants.{Ok, Err}
 use Rattle.landmark.specs.Records.{Item, run, item, after, unfit, item-at, two-bytes, body-at, longest-run}
-use Rattle.landmark.specs.Grammar.{sizes, words-of, words-from, runs-of, items-of, list-counts, landmarks-of, all-words}
+use Rattle.landmark.specs.Grammar.{sizes, words-of, words-from, runs-of, items-of}
 use Rattle.landmark.specs.Lists.{list-verdict, most-words, parts-from}
 use Rattle.landmark.specs.declared.element.Element.{Element}
 use Rattle.landmark.specs.declared.element.Element.the-variants as E
@@ -45,6 +44,7 @@ pub record Run-at (l : List ℕ) (p : ℕ) (bytes : List ℕ) : Type 0 where
 fit-run : (bytes : List ℕ) → unfit (run bytes) ≡ None → (0 < length bytes) × (length bytes ≤ longest-run)
 fit-run bytes fit = (grind (arith, tells), grind (arith, tells))
 
+-- the run whose record stands at a place
 run-at : (l : List ℕ) (p : ℕ) (bytes : List ℕ) → Bytes l → item-at l p ≡ Ok (run bytes) → Run-at l p bytes
 run-at l p bytes all e =
     let there = stands l p (run bytes) e in
@@ -100,6 +100,7 @@ accepted-words l counts bytes e =
     let same = exactly .2 in
     (take-all most-words (words-of l) (omega (arith, ap length same)), ap sizes same ∙ ap (λ (c : Counts). c .«run_bytes») (sym (exactly .1)))
 
+-- so the words so far are the index of the list
 pub indexes : (l : List ℕ) (w : Words) (rest : List (List ℕ)) → Bytes l → indexed w ++ rest ≡ words-of l → (rest ≡ []) ⊎ (most-words ≤ w .count) → Indexes l w
 indexes l w rest bytes all ended =
     let first = first-words (words-of l) w rest all ended in

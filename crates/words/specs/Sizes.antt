@@ -1,5 +1,5 @@
 -- How many words an index has, and how long they are.
-use mathlib.Core.Path.{_≡_, ap, subst, sym, _∙_}
+use mathlib.Core.Path.{_≡_, ap, _∙_}
 use mathlib.Core.List.{List, []}
 use Prim.Native.Nat.{ℕ, _+_, _≤_, _<_}
 use native.Mathlib.Omega.{arith}
@@ -9,7 +9,7 @@ use Rattle.std.proofs.shelf.Counted.{length-map-counting, getD-map-counting}
 use Rattle.std.proofs.shelf.Lists.{length-take, length-drop}
 use Rattle.landmark.specs.Records.{longest-run}
 use Rattle.landmark.specs.Lists.{most-words}
-use Rattle.words.specs.Places.{part-at, Lies-inside}
+use Rattle.words.specs.Places.{part-at}
 use Rattle.words.specs.Index.{indexed}
 use Rattle.words.specs.declared.words.Words.{Words}
 

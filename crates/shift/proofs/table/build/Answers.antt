@@ -1,10 +1,10 @@
 use mathlib.Core.Path.{_≡_, refl, sym, ap, subst, _∙_}
 use Prim.Native.Nat.{ℕ}
 use native.Mathlib.Omega.{arith}
-use lib.ListN.{length, set, drop}
+use lib.ListN.{set, drop}
 use Rattle.landmark.specs.Grammar.{words-of}
 use Rattle.words.specs.Index.{indexed}
-use Rattle.shift.specs.Table.{entries, all-bytes, number-of, table-of, Tells-places}
+use Rattle.shift.specs.Table.{entries, all-bytes, number-of, Tells-places}
 use Rattle.shift.proofs.Admission.{admitted}
 use Rattle.shift.proofs.Filling.{filled, filled-more}
 use Rattle.shift.proofs.Numbers.{table-tells}

@@ -1,6 +1,4 @@
-use Prim.Native.Nat.{_+_, _≤_, _<_}
 use native.Mathlib.Omega.{arith}
-use lib.ListN.{length, getD}
 use Rattle.words.specs.Index.{indexed}
 use Rattle.words.specs.Sizes.{indexed-sized}
 use Rattle.shift.proofs.Edging.{edged-none, edged-room, edged-more, edged-all}

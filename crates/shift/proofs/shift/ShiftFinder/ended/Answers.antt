@@ -1,6 +1,6 @@
 use mathlib.Core.Path.{_≡_, sym, ap, _∙_}
 use mathlib.Core.Bool.{_&&_}
-use Prim.Native.Nat.{ℕ, _+_, _-_, _^_, _≤_, _<_}
+use Prim.Native.Nat.{ℕ, _-_}
 use native.Mathlib.Omega.{arith}
 use lib.Bits.{bitAnd, bitOr, or-zero-r, and-le-l}
 use lib.Count.{trailingZeros}
@@ -10,7 +10,7 @@ use Rattle.words.specs.Sizes.{indexed-sized}
 use Rattle.shift.specs.Register.{bit, lasts-of}
 use Rattle.shift.specs.declared.shift.ShiftFinder.{ShiftFinder}
 use Rattle.shift.proofs.Bits.{bit-and}
-use Rattle.shift.proofs.Clearing.{only-lasts, only-still, cleared, cleared-less, word-small}
+use Rattle.shift.proofs.Clearing.{only-lasts, only-still, cleared}
 use Rattle.shift.proofs.Ending.{Some-bytes, ended, ended-none, ended-lasts, mask-ended}
 use Rattle.shift.proofs.Lowest.{lowest}
 use Rattle.shift.proofs.shift.ShiftFinder.ended.Needs as need

@@ -1,16 +1,12 @@
-use mathlib.Core.Path.{_≡_, sym, ap, _∙_}
-use mathlib.Core.List.{[], _∷_, _++_}
+use mathlib.Core.Path.{ap}
+use mathlib.Core.List.{[], _∷_}
 use mathlib.Core.Logic.{inl, inr}
-use Prim.Native.Nat.{_+_}
 use native.Mathlib.Omega.{arith}
 use denote.Ref.{now}
 use lib.ListN.{length}
 use Rattle.std.proofs.shelf.Lists.{append-assoc}
-use Rattle.std.specs.declared.result.Result.the-variants.{Ok}
 use Rattle.landmark.specs.Grammar.{words-from}
-use Rattle.landmark.specs.Records.{run, item, item-at}
 use Rattle.words.specs.Index.{indexed}
-use Rattle.words.specs.Places.{part-at}
 use Rattle.words.proofs.Runs.{run-read, words-at-run, words-past, no-words, indexes}
 use Rattle.words.proofs.words.Words.of.Needs as need
 
