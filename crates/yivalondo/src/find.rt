@@ -2,10 +2,31 @@
 use finder::Finder;
 use landmark::Fault;
 use landmark::FaultDisplay;
+use link::LinkFinder;
+use link::LinkFinderFinder;
+use link::Node;
 use shift::ShiftFinder;
 use shift::ShiftFinderFinder;
 use std::error::AnyError;
 use std::fmt;
+
+// The finders that an image can be searched with.
+#[derive(Clone, Copy)]
+pub enum Method {
+    Link,
+    Shift,
+    Both,
+}
+
+// The method of this name.
+pub fn method_named(name: &str) -> Option<Method> {
+    match name {
+        "link" => Some(Method::Link),
+        "shift" => Some(Method::Shift),
+        "both" => Some(Method::Both),
+        _ => None,
+    }
+}
 
 // The words that end at a place of the image, one to each bit.
 #[derive(Clone, Copy)]
@@ -47,18 +68,29 @@ fn print_endings<F: Finder>(
     Ok(())
 }
 
-// The endings of a list's words, by a shift finder on the list and its table.
-fn find_by_shift<'a>(
+// The same by two finders in step, and whether they ever differed.
+fn print_in_step<F: Finder, G: Finder>(
     rt: &LibcRuntime,
-    list: &'a [u8],
-    table: &'a [u64],
+    link: &mut F,
+    shift: &mut G,
     image: &[u8],
 ) -> Result<(), AnyError> {
-    let mut finder = ShiftFinder::new();
-    match finder.mount(list, table) {
-        Ok(()) => print_endings(rt, &mut finder, image),
-        Err(fault) => print_refusal(rt, fault),
+    link.rest();
+    shift.rest();
+    for (before, byte) in image.iter().enumerate() {
+        let words = link.take(*byte);
+        let end = before.saturating_add(1);
+        if words != shift.take(*byte) {
+            println!(rt, "the finders differ at {end}")?;
+            return Ok(());
+        }
+        if words != 0 {
+            let ending = Ending { end, words };
+            println!(rt, "{ending}")?;
+        }
     }
+    println!(rt, "both finders agree at every byte")?;
+    Ok(())
 }
 
 // A refusal is an answer.
@@ -67,11 +99,67 @@ fn print_refusal(rt: &LibcRuntime, fault: Fault) -> Result<(), AnyError> {
     Ok(())
 }
 
-// The places at which words of the list end in the image.
-pub fn find(rt: &LibcRuntime, list: &[u8], image: &[u8]) -> Result<(), AnyError> {
-    let mut table = [0u64; 256];
-    match shift::build(list, &mut table) {
-        Ok(_) => find_by_shift(rt, list, &table, image),
+fn find_by_link<'a>(
+    rt: &LibcRuntime,
+    list: &'a [u8],
+    nodes: &'a [Node],
+    image: &[u8],
+) -> Result<(), AnyError> {
+    let mut finder = LinkFinder::new();
+    match finder.mount(list, nodes) {
+        Ok(()) => print_endings(rt, &mut finder, image),
         Err(fault) => print_refusal(rt, fault),
+    }
+}
+
+fn find_by_shift<'a>(
+    rt: &LibcRuntime,
+    list: &'a [u8],
+    numbers: &'a [u64],
+    image: &[u8],
+) -> Result<(), AnyError> {
+    let mut finder = ShiftFinder::new();
+    match finder.mount(list, numbers) {
+        Ok(()) => print_endings(rt, &mut finder, image),
+        Err(fault) => print_refusal(rt, fault),
+    }
+}
+
+fn find_by_both<'a>(
+    rt: &LibcRuntime,
+    list: &'a [u8],
+    nodes: &'a [Node],
+    numbers: &'a [u64],
+    image: &[u8],
+) -> Result<(), AnyError> {
+    let mut link = LinkFinder::new();
+    if let Err(fault) = link.mount(list, nodes) {
+        return print_refusal(rt, fault);
+    }
+    let mut shift = ShiftFinder::new();
+    match shift.mount(list, numbers) {
+        Ok(()) => print_in_step(rt, &mut link, &mut shift, image),
+        Err(fault) => print_refusal(rt, fault),
+    }
+}
+
+// The places at which words of the list end in the image.
+pub fn find(rt: &LibcRuntime, method: Method, list: &[u8], image: &[u8]) -> Result<(), AnyError> {
+    let mut numbers = [0u64; 256];
+    let mut nodes = crate::table::room(rt, list)?;
+    let built = match method {
+        Method::Link => link::build(list, nodes.as_mut_slice()),
+        Method::Shift | Method::Both => shift::build(list, &mut numbers),
+    };
+    if let Err(fault) = built {
+        return print_refusal(rt, fault);
+    }
+    match method {
+        Method::Link => find_by_link(rt, list, nodes.as_slice(), image),
+        Method::Shift => find_by_shift(rt, list, &numbers, image),
+        Method::Both => match link::build(list, nodes.as_mut_slice()) {
+            Ok(_) => find_by_both(rt, list, nodes.as_slice(), &numbers, image),
+            Err(fault) => print_refusal(rt, fault),
+        },
     }
 }

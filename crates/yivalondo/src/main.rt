@@ -2,6 +2,7 @@
 mod find;
 mod input;
 mod listing;
+mod table;
 
 use listing::LineDisplay;
 use listing::Listing;
@@ -11,7 +12,8 @@ use listing::VerdictDisplay;
 use std::env;
 use std::error::AnyError;
 
-const USAGE: &str = "usage: yivalondo check|show [LIST]  or  yivalondo find LIST IMAGE";
+const USAGE: &str =
+    "usage: yivalondo check|show|table|dot [LIST]  or  yivalondo find [--finder link|shift|both] LIST IMAGE";
 
 // One line with the list's counts, or with its first fault.
 fn check(rt: &LibcRuntime, list: &[u8]) -> Result<(), AnyError> {
@@ -29,35 +31,44 @@ fn show(rt: &LibcRuntime, list: &[u8]) -> Result<(), AnyError> {
     check(rt, list)
 }
 
-// The places of the image at which words of the list end.
-fn find_words(
-    rt: &LibcRuntime,
-    list: Option<String>,
-    image: Option<String>,
-) -> Result<(), AnyError> {
-    if list.is_none() || image.is_none() {
+// The places of the image at which words of the list end, by the finder that is asked for.
+fn find_words(rt: &LibcRuntime, words: &[String]) -> Result<(), AnyError> {
+    let (method, files) = match words {
+        [option, name, files @ ..] if option.as_str() == "--finder" => (
+            find::method_named(name.as_str()),
+            files,
+        ),
+        _ => (Some(find::Method::Link), words),
+    };
+    let (Some(method), [list, image]) = (method, files) else {
         return Err(USAGE.into());
+    };
+    let list = input::read_file(rt, list.as_str())?;
+    let image = input::read_file(rt, image.as_str())?;
+    find::find(rt, method, list.as_slice(), image.as_slice())
+}
+
+// What a command does with one list.
+fn with_list(rt: &LibcRuntime, command: &str, list: &[u8]) -> Result<(), AnyError> {
+    match command {
+        "check" => check(rt, list),
+        "show" => show(rt, list),
+        "table" => table::print_table(rt, list),
+        "dot" => table::print_drawing(rt, list),
+        _ => Err(USAGE.into()),
     }
-    let list = input::read(rt, list)?;
-    let image = input::read(rt, image)?;
-    find::find(rt, list.as_slice(), image.as_slice())
 }
 
 fn run(rt: &LibcRuntime) -> Result<(), AnyError> {
-    let mut args = env::args(rt)?;
-    let _program = args.next();
-    let Some(command) = args.next() else {
-        return Err(USAGE.into());
-    };
-    let first = args.next();
-    let second = args.next();
-    if args.next().is_some() {
-        return Err(USAGE.into());
-    }
-    match (command.as_str(), second) {
-        ("check", None) => check(rt, input::read(rt, first)?.as_slice()),
-        ("show", None) => show(rt, input::read(rt, first)?.as_slice()),
-        ("find", second) => find_words(rt, first, second),
+    let words: Vec<String> = env::args(rt)?.skip(1).collect(rt.alloc())?;
+    match words.as_slice() {
+        [command, rest @ ..] if command.as_str() == "find" => find_words(rt, rest),
+        [command] => with_list(rt, command.as_str(), input::read_input(rt)?.as_slice()),
+        [command, list] => with_list(
+            rt,
+            command.as_str(),
+            input::read_file(rt, list.as_str())?.as_slice(),
+        ),
         _ => Err(USAGE.into()),
     }
 }
