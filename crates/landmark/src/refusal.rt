@@ -77,7 +77,8 @@ impl Refusal {
             Refusal::GapTooWide => "the operators in front of this run add up to more than 255",
             Refusal::TooMany => "a list has at most 32 landmarks and 64 runs",
             Refusal::NoSpace => "the record does not fit into the buffer",
-            Refusal::TooManyRunBytes => "a shift table serves at most 64 run bytes: use the link finder",
+            Refusal::TooManyRunBytes =>
+                "a shift table serves at most 64 run bytes: use the link finder",
             Refusal::TableTooSmall => "the table has too few entries",
             Refusal::EntryDiffers => "the table is not the one that the list builds",
             Refusal::OrderOut => "an order is out: carry it out or strike it off first",
