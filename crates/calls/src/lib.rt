@@ -1,4 +1,5 @@
 // A row of calls on one scan, with their answers.
+#![tactic(auto)]
 mod call;
 mod make;
 mod run;

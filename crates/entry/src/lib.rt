@@ -1,4 +1,5 @@
 // Where an image is entered: all calls on a scan in one.
+#![tactic(auto)]
 mod blocks;
 mod find;
 

@@ -1,4 +1,5 @@
 // Tests of finders on examples.
+#![tactic(auto)]
 #[cfg(test)]
 mod links;
 #[cfg(test)]

@@ -1,4 +1,6 @@
 // Landmark lists: their records, read and written, and the judging of a whole list.
+#![tactic(auto)]
+
 mod element;
 mod judge;
 mod judging;

@@ -1,4 +1,5 @@
 // Tests of landmark lists, mostly as tables.
+#![tactic(auto)]
 #[cfg(test)]
 mod lists;
 #[cfg(test)]

@@ -1,4 +1,5 @@
 // Worked examples, proved as one list of statements about the definitions.
+#![tactic(auto)]
 ghost use Rattle.samples.specs.Samples.{Samples};
 
 // Every sample holds.

@@ -1,4 +1,5 @@
 // Scans: images taken in blocks, the ends of landmarks in them, and orders to enter.
+#![tactic(auto)]
 mod agreement;
 mod ask;
 mod issue;

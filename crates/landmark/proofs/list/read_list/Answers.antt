@@ -7,13 +7,13 @@ use Rattle.landmark.proofs.VerdictLaws.{accepted_exactly}
 use Rattle.landmark.proofs.list.read_list.Goals as goal
 
 pub take-requires : goal.take-requires
-take-requires c = (stands c.args.list.now c.loop-place.place _ c.in-ok-read.ensures.0).content.fit
+take-requires c = (stands c.args.list.now c.loop-place.place _ c.in_ok-read.ensures.0).content.fit
 
 pub loop-place-preserved : goal.loop-place-preserved
 loop-place-preserved c =
     let l = c.args.list.now in
-    let read = c.in-ok-read.ensures in
-    let i = item c.in-ok-read.read.element in
+    let read = c.in_ok-read.ensures in
+    let i = item c.in_ok-read.read.element in
     let row = c.loop-place.invariant.0 in
     let took = c.in-Ok.ensures row c.loop-place.invariant.1 in
     let step = judged-record l c.loop-place.place i row None c.loop-place-test.true read.0 took.0 in
@@ -24,18 +24,18 @@ returns-in-Err c =
     let l = c.args.list.now in
     let row = c.loop-place.invariant.0 in
     let why = c.in-Err.ensures row c.loop-place.invariant.1 in
-    let is = sym (judged-record l c.loop-place.place _ row (Some c.in-Err.refusal) c.loop-place-test.true c.in-ok-read.ensures.0 why) ∙ c.loop-place.invariant.2 in
-    record { exact = is; law = accepted_exactly l _ (λ k. (c.type-inv.list k).fits) (sym is) }
+    let is = sym (judged-record l c.loop-place.place _ row (Some c.in-Err.refusal) c.loop-place-test.true c.in_ok-read.ensures.0 why) ∙ c.loop-place.invariant.2 in
+    record { exact = is; law = accepted_exactly l _ (λ k. (c.type_inv.list k).fits) (sym is) }
 
-pub returns-in-err-read : goal.returns-in-err-read
-returns-in-err-read c =
+pub returns-in_err-read : goal.returns-in_err-read
+returns-in_err-read c =
     let l = c.args.list.now in
-    let is : c.from-residual.result ≡ list_verdict l = search rules in
-    record { exact = is; law = accepted_exactly l _ (λ k. (c.type-inv.list k).fits) (sym is) }
+    let is : c.from_residual.result ≡ list_verdict l = search rules in
+    record { exact = is; law = accepted_exactly l _ (λ k. (c.type_inv.list k).fits) (sym is) }
 
 pub returns : goal.returns
 returns c =
     let l = c.args.list.now in
     let row = c.loop-place.invariant.0 in
     let is = c.finish.ensures row c.loop-place.invariant.1 ∙ sym (ap (judged (length l) row) (parts-at_end l c.loop-place.place c.loop-place-test.false)) ∙ c.loop-place.invariant.2 in
-    record { exact = is; law = accepted_exactly l _ (λ k. (c.type-inv.list k).fits) (sym is) }
+    record { exact = is; law = accepted_exactly l _ (λ k. (c.type_inv.list k).fits) (sym is) }

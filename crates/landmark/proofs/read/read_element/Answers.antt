@@ -4,8 +4,8 @@ use Rattle.landmark.proofs.read.read_element.Goals as goal
 
 pub returns-in-Ok : goal.returns-in-Ok
 returns-in-Ok c =
-    (item-read c.args.list.now c.args.place c.number-at-size.result c.number-at.result _ c.number-at-size.ensures c.number-at.ensures (omega arith) (omega arith) c.in-Ok.ensures, omega arith)
+    (item-read c.args.list.now c.args.place c.number_at-size.result c.number_at.result _ c.number_at-size.ensures c.number_at.ensures (omega arith) (omega arith) c.in-Ok.ensures, omega arith)
 
 pub returns-in-Err : goal.returns-in-Err
 returns-in-Err c =
-    (item-read c.args.list.now c.args.place c.number-at-size.result c.number-at.result _ c.number-at-size.ensures c.number-at.ensures (omega arith) (omega arith) c.in-Err.ensures, search rules)
+    (item-read c.args.list.now c.args.place c.number_at-size.result c.number_at.result _ c.number_at-size.ensures c.number_at.ensures (omega arith) (omega arith) c.in-Err.ensures, search rules)

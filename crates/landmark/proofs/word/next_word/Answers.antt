@@ -32,4 +32,4 @@ loop-read-preserved c =
     let l = c.args.list.now in
     let read = c.in-Ok.ensures in
     let here = words-at_record l c.loop-read.at _ read.0 in
-    (ap (words_from l) read.1 ∙ sym (no_word c.in-Ok.read.element _ c.in-default-element.not-Run) ∙ sym here ∙ c.loop-read.invariant.0, omega arith)
+    (ap (words_from l) read.1 ∙ sym (no_word c.in-Ok.read.element _ c.in_default-element.not-Run) ∙ sym here ∙ c.loop-read.invariant.0, omega arith)

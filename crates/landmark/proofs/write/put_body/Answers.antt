@@ -10,16 +10,16 @@ returns-in-Run c =
     let b = c.args.buffer.now in
     let at = c.args.at in
     let n = at + length c.in-Run.bytes.now - at in
-    subst (λ (e : Element). put_mid at n b c.copy-from-slice.new.self ≡ put b at (body_of (item e))) (sym c.in-Run.is)
-    (ap (put_mid at n b) c.copy-from-slice.ensures.after ∙ put-part b at n c.in-Run.bytes.now (omega arith))
+    subst (λ (e : Element). put_mid at n b c.copy_from_slice.new.self ≡ put b at (body_of (item e))) (sym c.in-Run.is)
+    (ap (put_mid at n b) c.copy_from_slice.ensures.after ∙ put-part b at n c.in-Run.bytes.now (omega arith))
 
 pub returns-in-Gap : goal.returns-in-Gap
 returns-in-Gap c =
     let b = c.args.buffer.now in
     let at = c.args.at in
     let fits : at ≤ length b = omega arith in
-    subst (λ (e : Element). c.put-number-in-Gap-2.new.buffer ≡ put b at (body_of (item e))) (sym c.in-Gap.is)
-    (c.put-number-in-Gap-2.ensures ∙ ap (λ l. put l (at + 2) (as_two c.in-Gap.gap.greatest)) c.put-number-in-Gap.ensures
+    subst (λ (e : Element). c.put_number-in-Gap-2.new.buffer ≡ put b at (body_of (item e))) (sym c.in-Gap.is)
+    (c.put_number-in-Gap-2.ensures ∙ ap (λ l. put l (at + 2) (as_two c.in-Gap.gap.greatest)) c.put_number-in-Gap.ensures
     ∙ put-put b at (at + 2) (as_two c.in-Gap.gap.least) (as_two c.in-Gap.gap.greatest) fits refl)
 
 pub returns-in-Star : goal.returns-in-Star

@@ -14,12 +14,12 @@ returns c =
     let size : c.in-Ok.size ≡ length (body_of i) = sized.1 in
     let start : p ≤ length b = omega arith in
     let fits : p + length (encoding i) ≤ length b = omega arith in
-    let first : c.put-number.new.buffer ≡ put b p (as_two (2 + length (body_of i))) = c.put-number.ensures ∙ ap (λ n. put b p (as_two (2 + n))) size in
-    let second : c.put-number-2.new.buffer ≡ put b p (as_two (2 + length (body_of i)) ++ as_two (kind_of i)) =
-    c.put-number-2.ensures ∙ ap (λ n. put c.put-number.new.buffer (p + 2) (as_two n)) c.kind.ensures
+    let first : c.put_number.new.buffer ≡ put b p (as_two (2 + length (body_of i))) = c.put_number.ensures ∙ ap (λ n. put b p (as_two (2 + n))) size in
+    let second : c.put_number-2.new.buffer ≡ put b p (as_two (2 + length (body_of i)) ++ as_two (kind_of i)) =
+    c.put_number-2.ensures ∙ ap (λ n. put c.put_number.new.buffer (p + 2) (as_two n)) c.kind.ensures
     ∙ ap (λ l. put l (p + 2) (as_two (kind_of i))) first ∙ put-put b p (p + 2) (as_two (2 + length (body_of i))) (as_two (kind_of i)) start refl in
-    let whole : c.put-body.new.buffer ≡ put b p (encoding i) =
-    c.put-body.ensures ∙ ap (λ l. put l (p + 4) (body_of i)) second
+    let whole : c.put_body.new.buffer ≡ put b p (encoding i) =
+    c.put_body.ensures ∙ ap (λ l. put l (p + 4) (body_of i)) second
     ∙ put-put b p (p + 4) (as_two (2 + length (body_of i)) ++ as_two (kind_of i)) (body_of i) start refl in
     let reads = put_reads b p i start sized.0 in
     let next : p + 4 + c.in-Ok.size ≡ p + length (encoding i) = omega arith in

@@ -3,4 +3,4 @@ use Rattle.link.proofs.BackBuilding.{child-linked}
 use Rattle.link.proofs.back.link_child.Goals as goal
 
 pub returns : goal.returns
-returns c ws ready child = ap (set c.args.table.now c.args.child) (child-linked ws c.args.at c.args.table.now ready c.args.child c.back-of-back.result child (c.back-of-back.ensures.is ws ready))
+returns c ws ready child = ap (set c.args.table.now c.args.child) (child-linked ws c.args.at c.args.table.now ready c.args.child c.back_of-back.result child (c.back_of-back.ensures.is ws ready))

@@ -8,8 +8,8 @@ loop-child-init c =
     let (ws, ready) = c.requires.some in
     (omega (arith, (linked_none ws c.args.at c.args.table.now ready).within, ready.ready.tree.size), λ ws ready. linked_none ws c.args.at c.args.table.now ready)
 
-pub link-child-requires : goal.link-child-requires
-link-child-requires c =
+pub link_child-requires : goal.link_child-requires
+link_child-requires c =
     let t = c.args.table.now in
     let (ws, ready) = c.requires.some in
     let linked = c.loop-child.invariant.1 ws ready in
@@ -24,7 +24,7 @@ loop-child-smaller c =
     let t = c.args.table.now in
     let (ws, ready) = c.requires.some in
     let linked = c.loop-child.invariant.1 ws ready in
-    linked_falls ws at t ready _ _ (omega arith) linked _ (c.link-child.ensures ws (ready_next ws at t ready _ _ (omega arith) linked) (open_next ws at t ready _ _ (omega arith) linked))
+    linked_falls ws at t ready _ _ (omega arith) linked _ (c.link_child.ensures ws (ready_next ws at t ready _ _ (omega arith) linked) (open_next ws at t ready _ _ (omega arith) linked))
 
 pub loop-child-preserved : goal.loop-child-preserved
 loop-child-preserved c =
@@ -32,7 +32,7 @@ loop-child-preserved c =
     let t = c.args.table.now in
     let more = λ (ws : List (List ℕ)) (ready : ReadyChildren ws at t).
     let linked = c.loop-child.invariant.1 ws ready in
-    linked_more ws at t ready _ _ (omega arith) linked _ (c.link-child.ensures ws (ready_next ws at t ready _ _ (omega arith) linked) (open_next ws at t ready _ _ (omega arith) linked)) in
+    linked_more ws at t ready _ _ (omega arith) linked _ (c.link_child.ensures ws (ready_next ws at t ready _ _ (omega arith) linked) (open_next ws at t ready _ _ (omega arith) linked)) in
     let (ws, ready) = c.requires.some in
     (omega (arith, (more ws ready).within, (more ws ready).finishes.size, ready.ready.tree.size), more)
 

@@ -7,8 +7,8 @@ use Rattle.link.proofs.back.link_depth.Goals.{then-table-at, else-table-at}
 pub loop-at-init : goal.loop-at-init
 loop-at-init c ws start = depth_none ws c.args.depth c.args.table.now start
 
-pub link-children-requires : goal.link-children-requires
-link-children-requires c =
+pub link_children-requires : goal.link_children-requires
+link_children-requires c =
     let (ws, start) = c.requires.some in
     record {
       some = (ws, depth_ready ws c.args.depth c.args.table.now start c.loop-at.at c.loop-at.table (omega arith) (c.loop-at.invariant ws start) c.if-table-at.true);
@@ -24,7 +24,7 @@ loop-at-preserved c ws start =
     let done = c.loop-at.invariant ws start in
     elim c.if-table-at.branch [
       | then-table-at w ↦ subst (Finishes ws _ t) (sym w.table-is)
-          (depth_more ws d t start at u (omega arith) done _ w.if-table-at.true (w.link-children.ensures ws (depth_ready ws d t start at u (omega arith) done w.if-table-at.true)))
+          (depth_more ws d t start at u (omega arith) done _ w.if-table-at.true (w.link_children.ensures ws (depth_ready ws d t start at u (omega arith) done w.if-table-at.true)))
       | else-table-at w ↦ subst (Finishes ws _ t) (sym w.table-is) (depth_same ws d t start at u (omega arith) done w.if-table-at.false)
     ]
 

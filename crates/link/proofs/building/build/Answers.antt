@@ -7,8 +7,8 @@ use Rattle.link.proofs.building.build.Goals as goal
 
 pub fill-requires : goal.fill-requires
 fill-requires c =
-    let good = admitted c.args.list.now (length c.args.table.now) c.of-words.result c.in-ok-admit.ensures c.of-words.ensures in
+    let good = admitted c.args.list.now (length c.args.table.now) c.of-words.result c.in_ok-admit.ensures c.of-words.ensures in
     omega (arith, good.bytes, sizes-sum (indexed c.of-words.result))
 
 pub returns : goal.returns
-returns c = built c.args.list.now c.of-words.result c.args.table.now _ _ c.in-ok-admit.ensures c.of-words.ensures c.fill.ensures.count c.fill.ensures.nodes
+returns c = built c.args.list.now c.of-words.result c.args.table.now _ _ c.in_ok-admit.ensures c.of-words.ensures c.fill.ensures.count c.fill.ensures.nodes

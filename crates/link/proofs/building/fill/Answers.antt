@@ -6,14 +6,14 @@ use Rattle.link.proofs.Built.{drop-same}
 use Rattle.link.proofs.Growing.{few_symbols}
 use Rattle.link.proofs.building.fill.Goals as goal
 
-pub slice-bounds-link-back-end : goal.slice-bounds-link-back-end
-slice-bounds-link-back-end g c = omega (arith, c.enter-words-count.ensures.entered.tree.size, c.enter-words-count.ensures.size, length-take c.enter-words-count.result c.enter-words-count.new.table)
+pub slice-bounds-link_back-end : goal.slice-bounds-link_back-end
+slice-bounds-link_back-end g c = omega (arith, c.enter_words-count.ensures.entered.tree.size, c.enter_words-count.ensures.size, length-take c.enter_words-count.result c.enter_words-count.new.table)
 
-pub link-back-requires : goal.link-back-requires
-link-back-requires g c =
+pub link_back-requires : goal.link_back-requires
+link_back-requires g c =
     let s = c.args.source.now in
     let ws = g.S.Source.entered s in
-    let held = c.enter-words-count.ensures in
+    let held = c.enter_words-count.ensures in
     record {
       some = (ws, g.S.Source.sized s, held.entered);
       small = omega (arith, held.entered.tree.size, length-strings ws, few_symbols ws (g.S.Source.few s) (g.S.Source.sized s));
@@ -23,10 +23,10 @@ pub returns : goal.returns
 returns g c =
     let s = c.args.source.now in
     let ws = g.S.Source.entered s in
-    let n = c.enter-words-count.result in
-    let u = c.enter-words-count.new.table in
-    let held = c.enter-words-count.ensures in
+    let n = c.enter_words-count.result in
+    let u = c.enter_words-count.new.table in
+    let held = c.enter_words-count.ensures in
     record {
       count = held.size;
-      nodes = ap (λ front. front ++ drop n u) (c.link-back.ensures ws (g.S.Source.sized s) held.entered) ∙ ap (λ rest. table_of ws ++ rest) (drop-same n u c.args.table.now c.enter-words-count.auto.table held.rest);
+      nodes = ap (λ front. front ++ drop n u) (c.link_back.ensures ws (g.S.Source.sized s) held.entered) ∙ ap (λ rest. table_of ws ++ rest) (drop-same n u c.args.table.now c.enter_words-count.auto.table held.rest);
     }

@@ -13,12 +13,12 @@ bounds-table-0 c = omega (arith, (rooted_strings (indexed c.args.words.now)).som
 pub returns-then-ne : goal.returns-then-ne
 returns-then-ne c =
     let other = (decides_other _ _ _ c.ne.ensures).0 c.if-ne.true in
-    (refl, record { within = (rooted_strings (indexed c.args.words.now)).some; before = λ m below. absurd (omega arith); wrong = λ right. other (right ∙ sym c.expected-root.ensures) })
+    (refl, record { within = (rooted_strings (indexed c.args.words.now)).some; before = λ m below. absurd (omega arith); wrong = λ right. other (right ∙ sym c.expected_root.ensures) })
 
 pub loop-k-preserved : goal.loop-k-preserved
 loop-k-preserved c =
     let ws = indexed c.args.words.now in
-    subst (λ k. RightBefore ws c.args.table.now (base_of ws k)) (sym (add-one c.loop-k.k)) c.in-default.ensures
+    subst (λ k. RightBefore ws c.args.table.now (base_of ws k)) (sym (add-one c.loop-k.k)) c.in_default.ensures
 
 pub returns : goal.returns
 returns c =

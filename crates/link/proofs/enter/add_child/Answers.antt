@@ -15,8 +15,8 @@ linked c us v before reaches =
     let r = c.args.from in
     let b = c.args.symbol in
     let ss = strings (us ++ (v ∷ [])) in
-    let last = c.last-child-last.result in
-    let behind = c.last-child-last.ensures ss reaches.front.entered.tree in
+    let last = c.last_child-last.result in
+    let behind = c.last_child-last.ensures ss reaches.front.entered.tree in
     let Links = Relinked ss (with_child ss r.node b) t in
     elim c.if-last-eq0.branch [
       | then-last-eq0 w ↦ subst Links (sym w.table-is) (first_link us v before t r reaches b last behind c.requires.room w.if-last-eq0.true)

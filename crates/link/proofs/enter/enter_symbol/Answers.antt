@@ -5,4 +5,4 @@ pub returns-in-Some : goal.returns-in-Some
 returns-in-Some c us v before reaches = reaches_there us v before _ c.args.from reaches c.args.symbol c.in-Some.node (c.in-Some.ensures _ reaches.front.entered.tree)
 
 pub returns : goal.returns
-returns c us v before reaches = c.add-child.ensures us v before reaches (none_there us v before _ c.args.from reaches c.args.symbol (c.in-default.ensures _ reaches.front.entered.tree))
+returns c us v before reaches = c.add_child.ensures us v before reaches (none_there us v before _ c.args.from reaches c.args.symbol (c.in_default.ensures _ reaches.front.entered.tree))

@@ -11,14 +11,14 @@ use Rattle.link.proofs.enter.enter_word.Goals as goal
 pub loop-i-init : goal.loop-i-init
 loop-i-init g c = (omega arith, λ before holds. reaches_root (take c.args.k (g.S.Source.entered c.args.source.now)) c.args.count before c.args.table.now holds)
 
-pub enter-symbol-reached-requires : goal.enter-symbol-reached-requires
-enter-symbol-reached-requires g c =
+pub enter_symbol-reached-requires : goal.enter_symbol-reached-requires
+enter_symbol-reached-requires g c =
     let s = c.args.source.now in
     let ws = g.S.Source.entered s in
     let k = c.args.k in
     let w = word ws k in
     let i = c.loop-i.i in
-    let inside : i < length w = omega (arith, c.length-of-i-end.ensures) in
+    let inside : i < length w = omega (arith, c.length_of-i-end.ensures) in
     let here = c.loop-i.invariant.1 c.args.table.now c.requires.held in
     let few = few_strings ws k i c.requires.one inside in
     let most = few_symbols ws (g.S.Source.few s) (g.S.Source.sized s) in
@@ -37,9 +37,9 @@ loop-i-preserved g c =
     let us = take c.args.k ws in
     let w = word ws c.args.k in
     let i = c.loop-i.i in
-    let inside : i < length w = omega (arith, c.length-of-i-end.ensures) in
+    let inside : i < length w = omega (arith, c.length_of-i-end.ensures) in
     let next = λ (before : List Node) (holds : Holds us c.args.count before c.args.table.now).
-    reaches_more us w before _ _ i _ inside c.symbol.ensures (c.enter-symbol-reached.ensures us (take i w) before (c.loop-i.invariant.1 before holds)) in
+    reaches_more us w before _ _ i _ inside c.symbol.ensures (c.enter_symbol-reached.ensures us (take i w) before (c.loop-i.invariant.1 before holds)) in
     (reaches_fits _ _ _ _ _ (next c.args.table.now c.requires.held), next)
 
 pub returns : goal.returns
@@ -51,7 +51,7 @@ returns g c before holds =
     let w = word ws k in
     let t = c.loop-i.table in
     let r = c.loop-i.reached in
-    let whole = take_all c.loop-i.i w (omega (arith, c.length-of-i-end.ensures)) in
+    let whole = take_all c.loop-i.i w (omega (arith, c.length_of-i-end.ensures)) in
     let reaches = subst (λ v. Reaches us v before t r) whole (c.loop-i.invariant.1 before holds) in
     let number : length us ≡ k = length-take-le k ws (omega (arith, c.requires.one)) in
     let held = holds-word us w before t r reaches c.loop-i.invariant.0 k number (omega (arith, g.S.Source.few s, c.requires.one)) in

@@ -8,15 +8,15 @@ use Rattle.link.proofs.enter.enter_words.Goals as goal
 pub loop-k-init : goal.loop-k-init
 loop-k-init g c = holds-root c.args.table.now (omega arith)
 
-pub enter-word-count-requires : goal.enter-word-count-requires
-enter-word-count-requires g c = record {
+pub enter_word-count-requires : goal.enter_word-count-requires
+enter_word-count-requires g c = record {
   held = holds-own _ _ _ _ c.loop-k.invariant;
   one = omega arith;
   room = omega (arith, length-set c.args.table.now 0 no_node, c.loop-k.auto.table, c.requires);
 }
 
 pub loop-k-preserved : goal.loop-k-preserved
-loop-k-preserved g c = c.enter-word-count.ensures _ c.loop-k.invariant
+loop-k-preserved g c = c.enter_word-count.ensures _ c.loop-k.invariant
 
 pub returns : goal.returns
 returns g c =

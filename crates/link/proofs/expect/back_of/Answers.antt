@@ -34,7 +34,7 @@ loop-from-preserved c =
     let s = c.args.string.now in
     let from = c.loop-from.from in
     let t = take (length s - from) (drop from s) in
-    left-more ws s from c.loop-from.invariant t (take_rest s from) c.loop-from-test.true (subst (NoneBefore ws t) c.count.ensures c.in-default.ensures)
+    left-more ws s from c.loop-from.invariant t (take_rest s from) c.loop-from-test.true (subst (NoneBefore ws t) c.count.ensures c.in_default.ensures)
 
 pub returns : goal.returns
 returns c = sym (left-none (indexed c.args.words.now) c.args.string.now c.loop-from.from c.loop-from.invariant c.loop-from-test.false)

@@ -23,4 +23,4 @@ overflow-cast-result-4 c = omega (arith, back_small c.args.words.now (take c.arg
 
 pub returns : goal.returns
 returns c =
-    entry_made (indexed c.args.words.now) c.args.k c.args.depth c.requires.made c.word.result.now c.word.ensures _ _ _ _ c.first_child.ensures c.branch-words.ensures c.back-of.ensures c.mask-of.ensures
+    entry_made (indexed c.args.words.now) c.args.k c.args.depth c.requires.made c.word.result.now c.word.ensures _ _ _ _ c.first_child.ensures c.branch-words.ensures c.back_of.ensures c.mask_of.ensures

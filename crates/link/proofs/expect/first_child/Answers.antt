@@ -9,8 +9,8 @@ number-requires c =
     let made = c.requires.made in
     (c.args.words.now, c.requires.shaped, record { inside = made.inside; above = omega (arith, made.above); within = omega arith })
 
-pub returns-then-depth-length-of : goal.returns-then-depth-length-of
-returns-then-depth-length-of c =
+pub returns-then-depth-length_of : goal.returns-then-depth-length_of
+returns-then-depth-length_of c =
     let ws = indexed c.args.words.now in
     let k = c.args.k in
     let d = c.args.depth in
@@ -18,6 +18,6 @@ returns-then-depth-length-of c =
     let is = c.number.ensures ws c.requires.shaped (record { inside = made.inside; above = omega (arith, made.above); within = omega arith }) in
     is ∙ ap (made_by ws k) (add-one d) ∙ sym (first_longer ws k d made (omega arith))
 
-pub returns-else-depth-length-of : goal.returns-else-depth-length-of
-returns-else-depth-length-of c =
+pub returns-else-depth-length_of : goal.returns-else-depth-length_of
+returns-else-depth-length_of c =
     c.branch-words.ensures ∙ sym (first_whole (indexed c.args.words.now) c.args.k c.args.depth c.requires.made (omega arith))

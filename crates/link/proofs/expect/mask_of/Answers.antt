@@ -19,10 +19,10 @@ loop-j-preserved c =
     let j = c.loop-j.j in
     let inside : j < length ws = omega arith in
     let few = c.loop-j.invariant.1 in
-    let test : ends_with s (word ws j) ≡ c.ends-with.result = ap (ends_with s) (sym c.word.ensures) ∙ sym (ends-test s c.word.result.now c.ends-with.result c.ends-with.ensures.value) in (
-      elim c.if-ends-with.branch [
-        | then-ends-with w ↦ w.mask-is ∙ ap (λ m. bit_or m ((1 * 2 ^ j) % 2 ^ 64)) c.loop-j.invariant.0 ∙ mask-set ws s j inside (omega arith) (test ∙ w.if-ends-with.true)
-        | else-ends-with w ↦ w.mask-is ∙ c.loop-j.invariant.0 ∙ mask-kept ws s j inside (test ∙ w.if-ends-with.false)
+    let test : ends_with s (word ws j) ≡ c.ends_with.result = ap (ends_with s) (sym c.word.ensures) ∙ sym (ends-test s c.word.result.now c.ends_with.result c.ends_with.ensures.value) in (
+      elim c.if-ends_with.branch [
+        | then-ends-with w ↦ w.mask-is ∙ ap (λ m. bit_or m ((1 * 2 ^ j) % 2 ^ 64)) c.loop-j.invariant.0 ∙ mask-set ws s j inside (omega arith) (test ∙ w.if-ends_with.true)
+        | else-ends-with w ↦ w.mask-is ∙ c.loop-j.invariant.0 ∙ mask-kept ws s j inside (test ∙ w.if-ends_with.false)
       ],
       few,
     )

@@ -15,7 +15,7 @@ loop-at-preserved c =
     let some = c.requires.tree in
     let way = c.loop-at.invariant.1 some.0 some.1 some.2 in (
       back_within t some.0 some.1 c.args.from c.args.byte at some.2 c.loop-at.invariant.0 way,
-      λ ss tree backed. back_on_the_way t ss tree c.args.from c.args.byte at backed c.loop-at.invariant.0 (c.loop-at.invariant.1 ss tree backed) (omega arith) (c.in-default.ensures ss tree),
+      λ ss tree backed. back_on_the_way t ss tree c.args.from c.args.byte at backed c.loop-at.invariant.0 (c.loop-at.invariant.1 ss tree backed) (omega arith) (c.in_default.ensures ss tree),
     )
 
 pub returns-in-Some : goal.returns-in-Some

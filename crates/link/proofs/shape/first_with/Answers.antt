@@ -4,16 +4,16 @@ use Rattle.link.specs.Shape.{BeginsWith}
 use Rattle.link.proofs.Beginning.{decides_begins}
 use Rattle.link.proofs.shape.first_with.Goals as goal
 
-pub returns-then-starts-with : goal.returns-then-starts-with
-returns-then-starts-with c =
+pub returns-then-starts_with : goal.returns-then-starts_with
+returns-then-starts_with c =
     let s = c.args.string.now in
-    let begins = (decides_begins c.word.result.now s _ c.starts-with.ensures.value).0 c.if-starts-with.true in
+    let begins = (decides_begins c.word.result.now s _ c.starts_with.ensures.value).0 c.if-starts_with.true in
     (omega arith, subst (λ w. BeginsWith w s) c.word.ensures begins, c.loop-i.invariant)
 
 pub loop-i-preserved : goal.loop-i-preserved
 loop-i-preserved c =
     let s = c.args.string.now in
-    let other = not_from_Decides _ (decides_begins c.word.result.now s _ c.starts-with.ensures.value) c.if-starts-with.false in
+    let other = not_from_Decides _ (decides_begins c.word.result.now s _ c.starts_with.ensures.value) c.if-starts_with.false in
     below_more _ _ c.loop-i.invariant (subst (λ w. BeginsWith w s → ⊥) c.word.ensures other)
 
 pub returns : goal.returns

@@ -8,15 +8,15 @@ use Rattle.shift.proofs.Numbers.{table_tells}
 use Rattle.shift.proofs.table.build.Goals as goal
 
 pub number-requires : goal.number-requires
-number-requires c = (admitted c.args.list.now _ c.of-words.result c.in-ok-admit.ensures c.of-words.ensures).narrow
+number-requires c = (admitted c.args.list.now _ c.of-words.result c.in_ok-admit.ensures c.of-words.ensures).narrow
 
 pub bounds-table-c : goal.bounds-table-c
-bounds-table-c c = omega (arith, (admitted c.args.list.now _ c.of-words.result c.in-ok-admit.ensures c.of-words.ensures).enough)
+bounds-table-c c = omega (arith, (admitted c.args.list.now _ c.of-words.result c.in_ok-admit.ensures c.of-words.ensures).enough)
 
 pub loop-c-preserved : goal.loop-c-preserved
 loop-c-preserved c =
     let f = number_of (all_bytes (indexed c.of-words.result)) in
-    let enough = (admitted c.args.list.now _ c.of-words.result c.in-ok-admit.ensures c.of-words.ensures).enough in
+    let enough = (admitted c.args.list.now _ c.of-words.result c.in_ok-admit.ensures c.of-words.ensures).enough in
     let more = filled_more f c.loop-c.c c.args.table.now (omega arith) in
     let before : c.loop-c.table ≡ filled f c.loop-c.c c.args.table.now = c.loop-c.invariant in
     let number : c.number.result ≡ f c.loop-c.c = c.number.ensures in
@@ -25,7 +25,7 @@ loop-c-preserved c =
 pub returns : goal.returns
 returns c =
     let f = number_of (all_bytes (indexed c.of-words.result)) in
-    let none = c.in-ok-admit.ensures in
+    let none = c.in_ok-admit.ensures in
     let all : c.loop-c.c ≡ entries = omega arith in
     let before : c.loop-c.table ≡ filled f c.loop-c.c c.args.table.now = c.loop-c.invariant in
     let words = (admitted c.args.list.now _ c.of-words.result none c.of-words.ensures).words in

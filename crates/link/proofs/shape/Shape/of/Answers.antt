@@ -23,7 +23,7 @@ loop-k-preserved c =
     let shape = c.loop-k.invariant.0 in
     let room = c.loop-k.invariant.3 in
     let also = c.loop-k.invariant.4 in (
-      shaped_more ws c.loop-k.shared c.loop-k.base k _ _ (omega arith) (omega arith) c.shared-by-front.ensures c.loop-k.invariant.1 shape,
+      shaped_more ws c.loop-k.shared c.loop-k.base k _ _ (omega arith) (omega arith) c.shared_by-front.ensures c.loop-k.invariant.1 shape,
       omega (arith, base_more ws k (omega arith), ap (base_of ws) (add-one k)),
       c.loop-k.invariant.2,
       length-set _ k _ ∙ room,

@@ -12,9 +12,9 @@ use Rattle.plan.proofs.plan.Plan.read.Goals as goal
 pub loop-read-init : goal.loop-read-init
 loop-read-init c =
     let l = c.args.list.now in
-    let accepted = c.in-ok-read-list.ensures in
+    let accepted = c.in_ok-read_list.ensures in
     let good = accepted.law.0.well_formed in (
-      so_far_none c.none-plan.result (items_of (parts_from l 0)) (landmarks_of l) c.none-plan.ensures good.each (accepted_together l _ (λ k. (c.type-inv.list k).fits) (sym accepted.exact)),
+      so_far_none c.none-plan.result (items_of (parts_from l 0)) (landmarks_of l) c.none-plan.ensures good.each (accepted_together l _ (λ k. (c.type_inv.list k).fits) (sym accepted.exact)),
       accepted_complete l _ (sym accepted.exact),
     )
 
@@ -22,7 +22,7 @@ pub loop-read-preserved : goal.loop-read-preserved
 loop-read-preserved c =
     let l = c.args.list.now in
     let p = c.loop-read.place in
-    let accepted = c.in-ok-read-list.ensures in
+    let accepted = c.in_ok-read_list.ensures in
     let read = c.in-Ok.ensures in
     let i = item c.in-Ok.read.element in
     let fits = (stands l p i read.0).fits in
@@ -37,9 +37,9 @@ loop-read-preserved c =
 pub returns : goal.returns
 returns c =
     let l = c.args.list.now in
-    let accepted = c.in-ok-read-list.ensures in
+    let accepted = c.in_ok-read_list.ensures in
     let ms = landmarks_of l in
-    let over : parts_from l c.loop-read.place ≡ ended = complete_fault l c.loop-read.place c.in-default.field-0.refusal c.in-default.ensures.0 c.loop-read.invariant.1 in (
+    let over : parts_from l c.loop-read.place ≡ ended = complete_fault l c.loop-read.place c.in_default.field-0.refusal c.in_default.ensures.0 c.loop-read.invariant.1 in (
       λ f e. let z : ◌≡◌ {A = ℕ} 0 1 = cc accepted.exact in omega arith,
       so_far_end c.loop-read.plan c.loop-read.front ms (small ms accepted.law.0.well_formed) (subst (λ ps. SoFar c.loop-read.plan c.loop-read.front (items_of ps) ms) over c.loop-read.invariant.0),
     )

@@ -11,14 +11,14 @@ use Rattle.plan.proofs.plan.Plan.take.Goals as goal
 
 pub returns-in-Start : goal.returns-in-Start
 returns-in-Start c is ms small f =
-    so_far_start c.args.self.now c.add-landmark.new.self c.in-Start.role c.args.front is ms small
-    (subst (λ (e : Element). SoFar c.args.self.now c.args.front (item e ∷ is) ms) c.in-Start.is f) c.add-landmark.ensures
+    so_far_start c.args.self.now c.add_landmark.new.self c.in-Start.role c.args.front is ms small
+    (subst (λ (e : Element). SoFar c.args.self.now c.args.front (item e ∷ is) ms) c.in-Start.is f) c.add_landmark.ensures
 
 pub returns-in-Run : goal.returns-in-Run
 returns-in-Run c is ms small f =
-    subst (λ (s : Spacing). SoFar c.add-word.new.self (Behind s) is ms) (sym c.none.ensures)
-    (so_far_run c.args.self.now c.add-word.new.self c.in-Run.bytes.now c.args.front is ms small
-    (subst (λ (e : Element). SoFar c.args.self.now c.args.front (item e ∷ is) ms) c.in-Run.is f) c.add-word.ensures)
+    subst (λ (s : Spacing). SoFar c.add_word.new.self (Behind s) is ms) (sym c.none.ensures)
+    (so_far_run c.args.self.now c.add_word.new.self c.in-Run.bytes.now c.args.front is ms small
+    (subst (λ (e : Element). SoFar c.args.self.now c.args.front (item e ∷ is) ms) c.in-Run.is f) c.add_word.ensures)
 
 pub returns-in-Gap : goal.returns-in-Gap
 returns-in-Gap c is ms small f =

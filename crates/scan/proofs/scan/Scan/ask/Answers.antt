@@ -19,4 +19,4 @@ returns g c =
     let below : c.args.landmark < s.plan.landmarks = omega arith in
     asked_so words halves s c.args.landmark _
     (answered _ _ _ s s (may_ask_own words halves s c.in-Some.field-0 c.in-Some.is c.args.landmark below)
-    (c.end-of.ensures ∙ sym (own_end words halves s c.in-Some.field-0 c.in-Some.is c.args.landmark below)))
+    (c.end_of.ensures ∙ sym (own_end words halves s c.in-Some.field-0 c.in-Some.is c.args.landmark below)))

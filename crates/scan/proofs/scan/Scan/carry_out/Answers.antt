@@ -5,4 +5,4 @@ use Rattle.std.proofs.Common.{sym}
 pub returns : goal.returns
 returns g c =
     carried-out_so g.F.Finder.words g.F.Finder.halves _ _ _ _
-    (accepted _ c.args.order _ _ _ _ (sym c.if-not-has-out.ensures) (same-scan g.F.Finder.words g.F.Finder.halves _ c.args.self.now _ _))
+    (accepted _ c.args.order _ _ _ _ (sym c.if-not-has_out.ensures) (same-scan g.F.Finder.words g.F.Finder.halves _ c.args.self.now _ _))

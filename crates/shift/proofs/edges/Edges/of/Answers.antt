@@ -26,7 +26,7 @@ overflow-shl-lasts c =
 pub loop-k-preserved : goal.loop-k-preserved
 loop-k-preserved c =
     let w = c.args.words.now in
-    edged_more (indexed w) _ _ _ c.loop-k.k (omega arith) c.loop-k.invariant _ c.length-of-p.ensures c.requires (indexed-sized w c.loop-k.k (omega arith)).0
+    edged_more (indexed w) _ _ _ c.loop-k.k (omega arith) c.loop-k.invariant _ c.length_of-p.ensures c.requires (indexed-sized w c.loop-k.k (omega arith)).0
 
 pub returns : goal.returns
 returns c =

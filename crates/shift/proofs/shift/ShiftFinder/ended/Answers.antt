@@ -36,8 +36,8 @@ loop-place-preserved c =
     let ws = indexed s.words in
     let low = c.in-Some.ensures in
     let inv = c.loop-place.invariant in (
-      cleared ws s.lasts c.loop-place.left c.in-Some.place c.take-lowest.new.bits (words-some s) s.ends inv.1 low c.loop-place.found ∙ inv.0,
-      only_rest ws s.lasts c.loop-place.left c.in-Some.place c.take-lowest.new.bits (words-some s) s.ends inv.1 low,
+      cleared ws s.lasts c.loop-place.left c.in-Some.place c.take_lowest.new.bits (words-some s) s.ends inv.1 low c.loop-place.found ∙ inv.0,
+      only_rest ws s.lasts c.loop-place.left c.in-Some.place c.take_lowest.new.bits (words-some s) s.ends inv.1 low,
     )
 
 pub returns : goal.returns
@@ -45,5 +45,5 @@ returns c =
     let s = c.args.self.now in
     let ws = indexed s.words in
     let found = c.loop-place.found in
-    let none : ended 0 ws c.loop-place.left ≡ 0 = ap (ended 0 ws) c.in-default.ensures.0 ∙ ended-none 0 ws in
+    let none : ended 0 ws c.loop-place.left ≡ 0 = ap (ended 0 ws) c.in_default.ensures.0 ∙ ended-none 0 ws in
     sym (or_zero_r found) ∙ ap (bit_or found) (sym none) ∙ c.loop-place.invariant.0 ∙ sym (mask-ended 0 ws s.register (words-some s))

@@ -6,10 +6,10 @@ loop-word-init c = taken_none c.args.plan.now c.forget.new.self c.args.ending c.
 
 pub loop-word-preserved : goal.loop-word-preserved
 loop-word-preserved c =
-    taken_more c.args.plan.now c.forget.new.self c.args.ending c.args.end c.loop-word.left c.in-Some.word c.take-lowest.new.bits c.loop-word.self c.take-word.new.self
-    c.in-Some.ensures c.take-word.ensures c.loop-word.invariant
+    taken_more c.args.plan.now c.forget.new.self c.args.ending c.args.end c.loop-word.left c.in-Some.word c.take_lowest.new.bits c.loop-word.self c.take_word.new.self
+    c.in-Some.ensures c.take_word.ensures c.loop-word.invariant
 
 pub returns : goal.returns
 returns c =
     taken_all c.args.plan.now c.args.self.now c.forget.new.self c.args.ending c.args.end c.loop-word.left c.loop-word.self
-    c.forget.ensures c.in-default.ensures.0 c.loop-word.invariant
+    c.forget.ensures c.in_default.ensures.0 c.loop-word.invariant

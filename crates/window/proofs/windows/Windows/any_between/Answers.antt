@@ -16,4 +16,4 @@ returns-then-word-ge-WORDS c = (
 pub returns : goal.returns
 returns c =
     let (there, back) = part_around c.args.self.now.numbers c.args.word _ c.args.low c.args.high (omega arith) in
-    Decides-like c.any-around.result there back c.any-around.ensures
+    Decides-like c.any_around.result there back c.any_around.ensures
