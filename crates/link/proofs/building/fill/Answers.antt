@@ -6,8 +6,8 @@ use Rattle.link.proofs.Built.{drop-same}
 use Rattle.link.proofs.Growing.{few_symbols}
 use Rattle.link.proofs.building.fill.Goals as goal
 
-pub slice-bounds-link_back-end : goal.slice-bounds-link_back-end
-slice-bounds-link_back-end g c = omega (arith, c.enter_words-count.ensures.entered.tree.size, c.enter_words-count.ensures.size, length-take c.enter_words-count.result c.enter_words-count.new.table)
+pub slice_bounds-link_back-end : goal.slice_bounds-link_back-end
+slice_bounds-link_back-end g c = omega (arith, c.enter_words-count.ensures.entered.tree.size, c.enter_words-count.ensures.size, length-take c.enter_words-count.result c.enter_words-count.new.table)
 
 pub link_back-requires : goal.link_back-requires
 link_back-requires g c =

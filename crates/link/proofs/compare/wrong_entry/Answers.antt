@@ -7,8 +7,8 @@ use Rattle.link.proofs.Equal.{decides_other}
 use Rattle.link.proofs.Making.{base_more, makes_from, makes_node, nodes_few}
 use Rattle.link.proofs.compare.wrong_entry.Goals as goal
 
-pub offset-bounds-shape-k : goal.offset-bounds-shape-k
-offset-bounds-shape-k c = omega (arith, indexed-few c.args.words.now)
+pub offset_bounds-shape-k : goal.offset_bounds-shape-k
+offset_bounds-shape-k c = omega (arith, indexed-few c.args.words.now)
 
 pub bounds-shape-k : goal.bounds-shape-k
 bounds-shape-k c = omega (arith, indexed-few c.args.words.now)
@@ -25,8 +25,8 @@ node c =
     let made = makes_from ws _ _ _ c.requires.shaped c.requires.inside c.loop-parent.auto.parent (omega arith) in
     omega (arith, c.number-n.ensures ws c.requires.shaped made, makes_node ws c.args.k (c.loop-parent.parent + 1) made)
 
-pub offset-bounds-table-n : goal.offset-bounds-table-n
-offset-bounds-table-n c = omega (arith, node c, nodes_few c.args.words.now)
+pub offset_bounds-table-n : goal.offset_bounds-table-n
+offset_bounds-table-n c = omega (arith, node c, nodes_few c.args.words.now)
 
 pub bounds-table-n : goal.bounds-table-n
 bounds-table-n c = omega (arith, node c)

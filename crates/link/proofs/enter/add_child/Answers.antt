@@ -23,8 +23,8 @@ linked c us v before reaches =
       | else-last-eq0 w ↦ subst Links (sym w.table-is) (next-link us v before t r reaches b last behind c.requires.room (omega (arith, w.if-last-eq0.false)))
     ]
 
-pub overflow-add-table : goal.overflow-add-table
-overflow-add-table c =
+pub overflow_add-table : goal.overflow_add-table
+overflow_add-table c =
     omega (arith, depth_linked c.requires.us c.requires.v _ _ c.args.from c.requires.reaches c.args.symbol _ (linked c c.requires.us c.requires.v _ c.requires.reaches))
 
 pub returns : goal.returns

@@ -4,8 +4,8 @@ use Rattle.words.specs.Sizes.{indexed-few}
 use Rattle.link.proofs.Branching.{branch_found, branch_none}
 use Rattle.link.proofs.expect.branch.Goals as goal
 
-pub overflow-add-behind : goal.overflow-add-behind
-overflow-add-behind c = omega (arith, indexed-few c.args.words.now)
+pub overflow_add-behind : goal.overflow_add-behind
+overflow_add-behind c = omega (arith, indexed-few c.args.words.now)
 
 pub loop-i-init : goal.loop-i-init
 loop-i-init c = (λ j low high. absurd (omega arith), indexed-few c.args.words.now)

@@ -7,8 +7,8 @@ use Rattle.link.specs.Shape.{BeginsWith}
 use Rattle.link.proofs.Beginning.{decides_begins}
 use Rattle.link.proofs.expect.branches.Goals as goal
 
-pub offset-bounds-shape-i : goal.offset-bounds-shape-i
-offset-bounds-shape-i c = omega (arith, indexed-few c.args.words.now)
+pub offset_bounds-shape-i : goal.offset_bounds-shape-i
+offset_bounds-shape-i c = omega (arith, indexed-few c.args.words.now)
 
 pub bounds-shape-i : goal.bounds-shape-i
 bounds-shape-i c = omega (arith, indexed-few c.args.words.now)

@@ -7,19 +7,19 @@ use Rattle.link.specs.Shape.{base_of}
 use Rattle.link.proofs.Entries.{back_small, entry_made, lowest-small}
 use Rattle.link.proofs.expect.expected.Goals as goal
 
-pub overflow-cast-result : goal.overflow-cast-result
-overflow-cast-result c = let made = c.requires.made in omega (arith, made.within, (indexed-sized c.args.words.now c.args.k made.inside).1)
+pub overflow_cast-result : goal.overflow_cast-result
+overflow_cast-result c = let made = c.requires.made in omega (arith, made.within, (indexed-sized c.args.words.now c.args.k made.inside).1)
 
-pub overflow-cast-result-2 : goal.overflow-cast-result-2
-overflow-cast-result-2 c = omega (arith, lowest-small c.args.words.now (is_child (take c.args.depth (word (indexed c.args.words.now) c.args.k))) 0)
+pub overflow_cast-result-2 : goal.overflow_cast-result-2
+overflow_cast-result-2 c = omega (arith, lowest-small c.args.words.now (is_child (take c.args.depth (word (indexed c.args.words.now) c.args.k))) 0)
 
-pub overflow-cast-result-3 : goal.overflow-cast-result-3
-overflow-cast-result-3 c =
+pub overflow_cast-result-3 : goal.overflow_cast-result-3
+overflow_cast-result-3 c =
     let ws = indexed c.args.words.now in
     omega (arith, lowest-small c.args.words.now (is_child (take (c.args.depth - 1) (word ws c.args.k))) (base_of ws (suc c.args.k)))
 
-pub overflow-cast-result-4 : goal.overflow-cast-result-4
-overflow-cast-result-4 c = omega (arith, back_small c.args.words.now (take c.args.depth c.word.result.now))
+pub overflow_cast-result-4 : goal.overflow_cast-result-4
+overflow_cast-result-4 c = omega (arith, back_small c.args.words.now (take c.args.depth c.word.result.now))
 
 pub returns : goal.returns
 returns c =

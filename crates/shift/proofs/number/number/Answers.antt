@@ -16,11 +16,11 @@ loop-b-init c =
     let word = ap (λ w. w ++ all_bytes (drop (c.loop-k.k + 1) ws)) (sym c.word-b-items.ensures) in
     subst (Gathered (all_bytes ws) c.args.c c.loop-k.bits c.loop-k.p) (here ∙ word) c.loop-k.invariant
 
-pub overflow-shl-bits : goal.overflow-shl-bits
-overflow-shl-bits c = omega (arith, gathered_room (indexed c.args.words.now) _ _ _ _ _ _ c.loop-b-test.true c.loop-b.invariant, c.requires)
+pub overflow_shl-bits : goal.overflow_shl-bits
+overflow_shl-bits c = omega (arith, gathered_room (indexed c.args.words.now) _ _ _ _ _ _ c.loop-b-test.true c.loop-b.invariant, c.requires)
 
-pub overflow-add-p : goal.overflow-add-p
-overflow-add-p c = omega (arith, gathered_room (indexed c.args.words.now) _ _ _ _ _ _ c.loop-b-test.true c.loop-b.invariant, c.requires)
+pub overflow_add-p : goal.overflow_add-p
+overflow_add-p c = omega (arith, gathered_room (indexed c.args.words.now) _ _ _ _ _ _ c.loop-b-test.true c.loop-b.invariant, c.requires)
 
 pub loop-b-preserved : goal.loop-b-preserved
 loop-b-preserved c =

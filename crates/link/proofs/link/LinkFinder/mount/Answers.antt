@@ -35,8 +35,8 @@ returns-in_err-used c =
     let (exact, right) = refused l t c.args.self.now _ c.from_residual-in_err-used.result (inr (none, differs, first)) (left.1 ∙ ap Err left.2) in
     record { exact = exact; law = right; built = accepts_built l c.of-words.result t _ c.of-words.ensures right }
 
-pub slice-bounds-table-end : goal.slice-bounds-table-end
-slice-bounds-table-end c =
+pub slice_bounds-table-end : goal.slice_bounds-table-end
+slice_bounds-table-end c =
     let t = c.args.table.now in
     let good = admitted c.args.list.now (length t) c.of-words.result c.in_ok-admit.ensures c.of-words.ensures in
     sym (length-take-le c.in_ok-used.used t (omega (arith, good.nodes, c.in_ok-used.ensures.0)))
@@ -49,8 +49,8 @@ root_row-requires c =
     let (used, right) = c.in_ok-used.ensures in
     (strings ws, right_tree ws _ (used-table ws t c.in_ok-used.used good.nodes used right))
 
-pub invariant-of-self : goal.invariant-of-self
-invariant-of-self c =
+pub invariant_of-self : goal.invariant_of-self
+invariant_of-self c =
     let t = c.args.table.now in
     let ws = indexed c.of-words.result in
     let good = admitted c.args.list.now (length t) c.of-words.result c.in_ok-admit.ensures c.of-words.ensures in

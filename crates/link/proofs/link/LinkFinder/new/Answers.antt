@@ -3,5 +3,5 @@ use Rattle.link.specs.Table.{table_of}
 use Rattle.link.proofs.RootRow.{row_empty}
 use Rattle.link.proofs.link.LinkFinder.new.Goals as goal
 
-pub invariant-of-result : goal.invariant-of-result
-invariant-of-result c = (ap table_of (sym c.none.ensures), (row_empty _ 256 c.none.ensures, (omega arith, tt)))
+pub invariant_of-result : goal.invariant_of-result
+invariant_of-result c = (ap table_of (sym c.none.ensures), (row_empty _ 256 c.none.ensures, (omega arith, tt)))

@@ -8,11 +8,11 @@ use Rattle.link.proofs.shape.Shape.of.Goals as goal
 pub loop-k-init : goal.loop-k-init
 loop-k-init c = (λ k below. absurd (omega arith), refl, indexed-few c.args.words.now, refl, refl)
 
-pub overflow-sub-nodes : goal.overflow-sub-nodes
-overflow-sub-nodes c = omega (arith, shared-short (indexed c.args.words.now) c.loop-k.k)
+pub overflow_sub-nodes : goal.overflow_sub-nodes
+overflow_sub-nodes c = omega (arith, shared-short (indexed c.args.words.now) c.loop-k.k)
 
-pub overflow-add-nodes : goal.overflow-add-nodes
-overflow-add-nodes c =
+pub overflow_add-nodes : goal.overflow_add-nodes
+overflow_add-nodes c =
     let w = c.args.words.now in
     omega (arith, base_more (indexed w) c.loop-k.k (omega arith), base_few w (suc c.loop-k.k) (omega arith))
 

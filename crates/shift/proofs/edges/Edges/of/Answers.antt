@@ -7,19 +7,19 @@ use Rattle.shift.proofs.edges.Edges.of.Goals as goal
 pub loop-k-init : goal.loop-k-init
 loop-k-init c = edged_none (indexed c.args.words.now)
 
-pub overflow-shl-firsts : goal.overflow-shl-firsts
-overflow-shl-firsts c =
+pub overflow_shl-firsts : goal.overflow_shl-firsts
+overflow_shl-firsts c =
     let w = c.args.words.now in
     omega (arith, edged_room (indexed w) _ _ _ c.loop-k.k (omega arith) c.loop-k.invariant, (indexed-sized w c.loop-k.k (omega arith)).0, c.requires)
 
-pub overflow-add-p : goal.overflow-add-p
-overflow-add-p c = omega (arith, edged_room (indexed c.args.words.now) _ _ _ c.loop-k.k (omega arith) c.loop-k.invariant, c.requires)
+pub overflow_add-p : goal.overflow_add-p
+overflow_add-p c = omega (arith, edged_room (indexed c.args.words.now) _ _ _ c.loop-k.k (omega arith) c.loop-k.invariant, c.requires)
 
-pub overflow-sub-lasts : goal.overflow-sub-lasts
-overflow-sub-lasts c = omega (arith, (indexed-sized c.args.words.now c.loop-k.k (omega arith)).0)
+pub overflow_sub-lasts : goal.overflow_sub-lasts
+overflow_sub-lasts c = omega (arith, (indexed-sized c.args.words.now c.loop-k.k (omega arith)).0)
 
-pub overflow-shl-lasts : goal.overflow-shl-lasts
-overflow-shl-lasts c =
+pub overflow_shl-lasts : goal.overflow_shl-lasts
+overflow_shl-lasts c =
     let w = c.args.words.now in
     omega (arith, edged_room (indexed w) _ _ _ c.loop-k.k (omega arith) c.loop-k.invariant, (indexed-sized w c.loop-k.k (omega arith)).0, c.requires)
 

@@ -22,11 +22,11 @@ loop-place-init c =
       only_lasts s.register s.lasts,
     )
 
-pub overflow-shl-below : goal.overflow-shl-below
-overflow-shl-below c = c.in-Some.ensures.place
+pub overflow_shl-below : goal.overflow_shl-below
+overflow_shl-below c = c.in-Some.ensures.place
 
-pub overflow-sub-below : goal.overflow-sub-below
-overflow-sub-below c =
+pub overflow_sub-below : goal.overflow_sub-below
+overflow_sub-below c =
     let p = c.in-Some.place in
     omega (arith, one_shl p 64 c.in-Some.ensures.place, pow_pos p)
 

@@ -34,8 +34,8 @@ returns-in_err-compare c =
 pub of-edges-requires : goal.of-edges-requires
 of-edges-requires c = (admitted c.args.list.now (length c.args.table.now) c.of-words.result c.in_ok-admit.ensures c.of-words.ensures).narrow
 
-pub invariant-of-self : goal.invariant-of-self
-invariant-of-self c =
+pub invariant_of-self : goal.invariant_of-self
+invariant_of-self c =
     let good = admitted c.args.list.now (length c.args.table.now) c.of-words.result c.in_ok-admit.ensures c.of-words.ensures in
     (good.narrow, (c.in_ok-compare.ensures, (c.of-edges.ensures.firsts, (c.of-edges.ensures.lasts, tt))))
 

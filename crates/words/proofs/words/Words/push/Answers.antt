@@ -13,11 +13,11 @@ few_bytes w =
     let most = sizes-most 64 (indexed w) (λ k within. (indexed-sized w k within).1) in
     omega (arith, w.total, w.few, length-indexed w)
 
-pub overflow-add-self : goal.overflow-add-self
-overflow-add-self c = let few = few_bytes c.args.self.now in omega arith
+pub overflow_add-self : goal.overflow_add-self
+overflow_add-self c = let few = few_bytes c.args.self.now in omega arith
 
-pub invariant-of-self : goal.invariant-of-self
-invariant-of-self c =
+pub invariant_of-self : goal.invariant_of-self
+invariant_of-self c =
     let w = c.args.self.now in
     let l = w.list.now in
     let room : w.count < length w.places = omega (arith, w.all_places) in
@@ -43,4 +43,4 @@ returns c =
     let w = c.args.self.now in
     let room : w.count < length w.places = omega (arith, w.all_places) in
     let also : w.count < length w.lengths = omega (arith, w.all_lengths) in
-    record { more = placed-more w.list.now w.places w.lengths w.count c.args.place c.args.size room also; same-list = refl }
+    record { more = placed-more w.list.now w.places w.lengths w.count c.args.place c.args.size room also; same_list = refl }
