@@ -1,6 +1,6 @@
 -- Words that begin with a string, and the strings of the words before a word.
-use Rattle.std.proofs.Common.{◌≡◌, ℕ, suc, ◌<◌, ◌≤◌, Bool, true, false, List, [], ◌++◌, length, take, drop, is_some, Some, None, Decides, Option, sym, refl, ap, ◌∙◌, subst, ⊎_elim, arith}
-use Rattle.std.specs.Cmp.Lexicographic.{Matches}
+use Rattle.std.proofs.Common.{◌≡◌, ℕ, suc, ◌<◌, ◌≤◌, Bool, true, false, List, [], ◌++◌, length, take, drop, is_some, Some, None, nat_eq, Decides, Option, sym, refl, ap, ◌∙◌, subst, ⊎_elim, arith}
+use Rattle.std.specs.Cmp.Lexicographic.{pointwise}
 use Rattle.std.specs.List.{ContainsAt as Has}
 use Rattle.std.proofs.ByRecursion.{has_get_or}
 use Rattle.std.proofs.lemmas.Slice.Eq.{starts_is}
@@ -14,7 +14,7 @@ use Rattle.link.specs.Shape.{BeginsWith, NoneBefore, FirstWith, shared_by}
 use Rattle.std.proofs.lemmas.Bool.Decides.{Decides-eqb}
 
 -- what the test of a front tells
-pub decides_begins : (w s : List ℕ) (r : Bool) → Matches (λ (a b : ℕ) (t : Bool). Decides t (a ≡ b)) s (take (length s) w) r → Decides r (BeginsWith w s)
+pub decides_begins : (w s : List ℕ) (r : Bool) → r ≡ pointwise nat_eq s (take (length s) w) → Decides r (BeginsWith w s)
 decides_begins w s r test = let (there, back) = starts_is Decides-eqb w s r test in (λ is. (drop (length s) w, there is), λ begins. back begins.0 begins.1)
 
 -- a word begins with its first bytes

@@ -1,8 +1,8 @@
 -- The mask of the words that a string ends with, word by word.
-use Rattle.std.proofs.Common.{◌≡◌, ℕ, suc, ◌+◌, ◌-◌, ◌*◌, ◌%◌, ◌^◌, ◌<◌, Bool, true, false, cond, List, [], ◌∷◌, ◌++◌, length, take, drop, Decides, sym, refl, ap, ◌∙◌, subst, one-mul, arith}
+use Rattle.std.proofs.Common.{◌≡◌, ℕ, suc, ◌+◌, ◌-◌, ◌*◌, ◌%◌, ◌^◌, ◌<◌, Bool, true, false, cond, List, [], ◌∷◌, ◌++◌, length, take, drop, nat_eq, Decides, sym, refl, ap, ◌∙◌, subst, one-mul, arith}
 use native.Mathlib.Nat.{pow-succ'}
 use lib.Bits.{bit_or, or_shifted_r}
-use Rattle.std.specs.Cmp.Lexicographic.{Matches}
+use Rattle.std.specs.Cmp.Lexicographic.{pointwise}
 use Rattle.std.proofs.lemmas.Nat.{one_shl}
 use Rattle.std.proofs.lemmas.Slice.Eq.{ends_is}
 use Rattle.std.proofs.lemmas.List.{length-take-le, take_more}
@@ -14,7 +14,7 @@ use Rattle.nodes.specs.Nodes.{suffix_mask}
 use Rattle.nodes.proofs.Meaning.{suffix_mask-below}
 
 -- what the test of an end tells
-pub ends-test : (s w : List ℕ) (r : Bool) → Matches (λ (a b : ℕ) (t : Bool). Decides t (a ≡ b)) w (drop (length s - length w) s) r → r ≡ ends_with s w
+pub ends-test : (s w : List ℕ) (r : Bool) → r ≡ pointwise nat_eq w (drop (length s - length w) s) → r ≡ ends_with s w
 ends-test s w r test = let (there, back) = ends_is Decides-eqb s w r test in same_from_decides r (ends_with s w) (λ is. (take (length s - length w) s, there is), λ ends. back ends.0 ends.1) (decides_ends_with s w)
 
 -- a bit one place higher is twice as much

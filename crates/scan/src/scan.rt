@@ -2,13 +2,12 @@ ghost use Rattle.std.specs.Prelude.{◌≤◌};
 ghost use Rattle.scan.specs.Announced.{most_announced, most_bytes};
 
 use crate::order::Numbers;
-use finder::Finder;
 use plan::Plan;
 use track::Tracks;
 
 // A scan over a finder: idle while no length is announced.
 #[derive(Drop)]
-pub struct Scan<F: Finder> {
+pub struct Scan<F> {
     pub(crate) finder: F,
     pub(crate) announced: Option<usize>,
     pub(crate) plan: Plan,

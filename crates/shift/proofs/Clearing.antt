@@ -32,7 +32,7 @@ module _ (ws : List (List ℕ)) (lasts left p rest : ℕ) (some : SomeBytes ws) 
   below = ap (λ (n : ℕ). bit_and lasts (n - 1)) (one_shl p 64 low.place) ∙ and_mask lasts p ∙ ap (λ (n : ℕ). n % 2 ^ p) is
 
   -- so many words end before it
-  word_small : ones (bit_and lasts (1 * 2 ^ p % 2 ^ 64 - 1)) < 64
+  pub word_small : ones (bit_and lasts (1 * 2 ^ p % 2 ^ 64 - 1)) < 64
   word_small = omega (arith, ap ones below, ones-le p (lasts_of ws % 2 ^ p) (mod_below (lasts_of ws) (2 ^ p) (pow_pos p)), low.place)
 
   -- the words of the bits left are that of the lowest, and those of the others

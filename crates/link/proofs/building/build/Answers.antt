@@ -1,6 +1,8 @@
-use Rattle.std.proofs.Common.{length, arith}
+use Rattle.std.proofs.Common.{length, Err, refl, sym, ap, ◌∙◌, subst, arith}
+use Rattle.std.proofs.lemmas.Result.{err_from_is_err_and}
 use Rattle.words.specs.Index.{indexed}
-use Rattle.link.proofs.Admission.{admitted}
+use Rattle.link.specs.Building.{Builds}
+use Rattle.link.proofs.Admission.{admitted, same-refusal}
 use Rattle.link.proofs.Built.{built}
 use Rattle.link.proofs.Making.{sizes-sum}
 use Rattle.link.proofs.building.build.Goals as goal
@@ -12,3 +14,10 @@ fill-requires c =
 
 pub returns : goal.returns
 returns c = built c.args.list.now c.of-words.result c.args.table.now _ _ c.in_ok-admit.ensures c.of-words.ensures c.fill.ensures.count c.fill.ensures.nodes
+
+pub returns-in_err-admit : goal.returns-in_err-admit
+returns-in_err-admit c =
+    let l = c.args.list.now in
+    let t = c.args.table.now in
+    let left = err_from_is_err_and c.from_residual.result c.from_residual.ensures.1 in
+    subst (Builds l t t) (sym (left.1 ∙ ap Err left.2)) (same-refusal l (length t) c.of-words.result c.of-words.ensures ∙ c.in_err-admit.ensures, refl)

@@ -25,7 +25,7 @@ pub invariant_of-self : goal.invariant_of-self
 invariant_of-self c =
     let f = c.args.self.now in
     let leads = c.follow-self.ensures (strings (words_in f)) (tree f) (backed f (length (string_at f))) (f.rooted c.args.b) in
-    (f.right, (f.rooted, (subst (λ n. c.follow-self.result < n) (sym (tree f).size) leads.0, tt)))
+    record { right = f.right; rooted = f.rooted; within = subst (λ n. c.follow-self.result < n) (sym (tree f).size) leads.0 }
 
 pub returns : goal.returns
 returns c =

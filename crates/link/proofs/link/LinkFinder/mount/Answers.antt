@@ -56,7 +56,11 @@ invariant_of-self c =
     let good = admitted c.args.list.now (length t) c.of-words.result c.in_ok-admit.ensures c.of-words.ensures in
     let (used, right) = c.in_ok-used.ensures in
     let begins = used-table ws t c.in_ok-used.used good.nodes used right in
-    (begins, (c.root_row.ensures (strings ws) (right_tree ws _ begins), (omega (arith, (rooted_strings ws).some, used, length-take-le c.in_ok-used.used t (omega (arith, good.nodes, used))), tt)))
+    record {
+      right = begins;
+      rooted = c.root_row.ensures (strings ws) (right_tree ws _ begins);
+      within = omega (arith, (rooted_strings ws).some, used, length-take-le c.in_ok-used.used t (omega (arith, good.nodes, used)));
+    }
 
 pub returns : goal.returns
 returns c =

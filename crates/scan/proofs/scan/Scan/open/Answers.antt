@@ -1,6 +1,6 @@
 use Rattle.scan.proofs.Opening.{behind_length, length-refused, opened_anew, opened_refused, order_out}
 use Rattle.scan.proofs.scan.Scan.open.Goals as goal
-use Rattle.scan.proofs.scan.Scan.open.Goals.{then-announced-eq0-via-then-announced-eq0, then-announced-eq0-via-else-announced-eq0+then-announced-gt-MOST-ANNOUNCED}
+use Rattle.scan.proofs.scan.Scan.open.Goals.{then-announced-eq0-via-then-announced-eq0, then-announced-eq0-via-else-announced-eq0+then-announced-gt-MOST_ANNOUNCED}
 use Rattle.scan.specs.Announced.{most_announced}
 use Rattle.scan.specs.Rules.{words_line}
 use Rattle.landmark.specs.Records.{or_else}
@@ -15,7 +15,7 @@ returns-in-Some g c =
 pub returns-then-announced-eq0 : goal.returns-then-announced-eq0
 returns-then-announced-eq0 g c =
     let n = c.args.announced in
-    let bad : (eqb n 0 || ltb most_announced n) ≡ true = elim c.then-announced-eq0.branch [ then-announced-eq0-via-then-announced-eq0 w ↦ grind (arith, nat_tests, w.if-announced-eq0.true) | then-announced-eq0-via-else-announced-eq0+then-announced-gt-MOST-ANNOUNCED w ↦ grind (arith, nat_tests, w.if-announced-gt-MOST_ANNOUNCED.true) ] in
+    let bad : (eqb n 0 || ltb most_announced n) ≡ true = elim c.then-announced-eq0.branch [ then-announced-eq0-via-then-announced-eq0 w ↦ grind (arith, nat_tests, w.if-announced-eq0.true) | then-announced-eq0-via-else-announced-eq0+then-announced-gt-MOST_ANNOUNCED w ↦ grind (arith, nat_tests, w.if-announced-gt-MOST_ANNOUNCED.true) ] in
     opened_refused g.F.Finder.words g.F.Finder.halves c.args.self.now c.args.list.now n _ _ refl
     (length-refused (g.F.Finder.words c.args.self.now.finder) c.args.self.now.out c.args.list.now n c.in_ok-plan.ensures.0 c.in_default.is bad)
 

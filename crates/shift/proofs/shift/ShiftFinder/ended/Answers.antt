@@ -6,7 +6,7 @@ use Rattle.words.specs.Sizes.{indexed-sized}
 use Rattle.shift.specs.Register.{bit, lasts_of}
 use Rattle.shift.specs.declared.shift.ShiftFinder.{ShiftFinder}
 use Rattle.shift.proofs.Bits.{bit-and}
-use Rattle.shift.proofs.Clearing.{only_lasts, only_rest, cleared}
+use Rattle.shift.proofs.Clearing.{only_lasts, only_rest, cleared, word_small}
 use Rattle.shift.proofs.Ending.{SomeBytes, ended, ended-none, ended-lasts, mask-ended}
 use Rattle.shift.proofs.shift.ShiftFinder.ended.Goals as goal
 
@@ -29,6 +29,11 @@ pub overflow_sub-below : goal.overflow_sub-below
 overflow_sub-below c =
     let p = c.in-Some.place in
     omega (arith, one_shl p 64 c.in-Some.ensures.place, pow_pos p)
+
+pub overflow_shl-found : goal.overflow_shl-found
+overflow_shl-found c =
+    let s = c.args.self.now in
+    word_small (indexed s.words) s.lasts c.loop-place.left c.in-Some.place c.take_lowest.new.bits (words-some s) s.ends c.loop-place.invariant.1 c.in-Some.ensures
 
 pub loop-place-preserved : goal.loop-place-preserved
 loop-place-preserved c =

@@ -37,7 +37,7 @@ of-edges-requires c = (admitted c.args.list.now (length c.args.table.now) c.of-w
 pub invariant_of-self : goal.invariant_of-self
 invariant_of-self c =
     let good = admitted c.args.list.now (length c.args.table.now) c.of-words.result c.in_ok-admit.ensures c.of-words.ensures in
-    (good.narrow, (c.in_ok-compare.ensures, (c.of-edges.ensures.firsts, (c.of-edges.ensures.lasts, tt))))
+    record { narrow = good.narrow; numbers = c.in_ok-compare.ensures; begins = c.of-edges.ensures.firsts; ends = c.of-edges.ensures.lasts }
 
 pub returns : goal.returns
 returns c =

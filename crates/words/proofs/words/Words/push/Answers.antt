@@ -24,19 +24,14 @@ invariant_of-self c =
     let also : w.count < length w.lengths = omega (arith, w.all_lengths) in
     let more = placed-more l w.places w.lengths w.count c.args.place c.args.size room also in
     let sum = ap sizes more ∙ sizes-append (indexed w) (part_at l c.args.place c.args.size ∷ []) in
-    let size = length_part l c.args.place c.args.size c.requires.within in (
-      omega arith,
-      (
-        simp length-set w.all_places,
-        (
-          simp length-set w.all_lengths,
-          (
-            inside_more l w.places w.lengths w.count c.args.place c.args.size room also w.inside c.requires.within c.requires.some c.requires.small,
-            (omega (arith, w.total), tt),
-          ),
-        ),
-      ),
-    )
+    let size = length_part l c.args.place c.args.size c.requires.within in
+    record {
+      few = omega arith;
+      all_places = simp length-set w.all_places;
+      all_lengths = simp length-set w.all_lengths;
+      inside = inside_more l w.places w.lengths w.count c.args.place c.args.size room also w.inside c.requires.within c.requires.some c.requires.small;
+      total = omega (arith, w.total);
+    }
 
 pub returns : goal.returns
 returns c =
