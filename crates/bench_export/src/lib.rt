@@ -1,5 +1,6 @@
 // The finders for a program in C or Rust: what the measurements call.
 #![tactic(auto)]
+
 mod checksum;
 mod links;
 mod scans;

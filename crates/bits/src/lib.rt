@@ -1,5 +1,6 @@
 // Bits of numbers: a walk over the bits that are set, and the laws that proofs about masks share.
 #![tactic(auto)]
+
 ghost use Rattle.bits.specs.Lowest.{TakesLowest};
 
 // Takes the lowest set bit off, and answers its place: none where no bit is set.

@@ -1,5 +1,6 @@
 // A row of calls on one scan, with their answers.
 #![tactic(auto)]
+
 mod call;
 mod make;
 mod run;

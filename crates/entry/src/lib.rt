@@ -1,5 +1,6 @@
 // Where an image is entered: all calls on a scan in one.
 #![tactic(auto)]
+
 mod blocks;
 mod find;
 

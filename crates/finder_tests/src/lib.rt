@@ -1,5 +1,6 @@
 // Tests of finders on examples.
 #![tactic(auto)]
+
 #[cfg(test)]
 mod links;
 #[cfg(test)]

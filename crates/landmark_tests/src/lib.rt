@@ -1,5 +1,6 @@
 // Tests of landmark lists, mostly as tables.
 #![tactic(auto)]
+
 #[cfg(test)]
 mod lists;
 #[cfg(test)]

@@ -191,7 +191,7 @@ fn elements_with_their_values(rt: HostRuntime) -> Result<(), Fail> {
     let Element::Run(bytes) = run.element else {
         return Err(Fail::new("no run"));
     };
-    assert!(rt; bytes == b"ab");
+    assert!(rt; bytes == b"ab".as_slice());
     let Element::Gap(gap) = read_element(list, run.next)?.element else {
         return Err(Fail::new("no gap"));
     };

@@ -1,5 +1,6 @@
 // The link finder: Aho and Corasick's automaton in a table of the caller's.
 #![tactic(auto)]
+
 mod admit;
 mod back;
 mod building;

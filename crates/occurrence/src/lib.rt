@@ -1,5 +1,6 @@
 // Occurrences of landmarks, and a landmark's end: the definitions that every layer rests on, and the laws that guard them.
 #![tactic(auto)]
+
 ghost use Rattle.occurrence.specs.Laws.{OccursInParts, OneEnd, SearchFindsTheEnd};
 
 // A landmark has one end, or none, in given bytes.

@@ -1,5 +1,6 @@
 // A client of a scan: an order is issued and carried out at once.
 #![tactic(auto)]
+
 ghost use Rattle.order_client.specs.Entering.{Entered};
 
 use finder::Finder;

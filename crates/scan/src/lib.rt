@@ -1,5 +1,6 @@
 // Scans: images taken in blocks, the ends of landmarks in them, and orders to enter.
 #![tactic(auto)]
+
 mod agreement;
 mod ask;
 mod issue;

@@ -109,7 +109,7 @@ fn on_links<'a>(
     let mut finder = LinkFinder::new();
     finder.mount(list, table)?;
     let mut scan = Scan::new(finder);
-    answers(rt, &mut scan, steps).note("over links")
+    answers(rt, &mut scan, steps)
 }
 
 fn on_shifts<'a>(
@@ -121,7 +121,7 @@ fn on_shifts<'a>(
     let mut finder = ShiftFinder::new();
     finder.mount(list, table)?;
     let mut scan = Scan::new(finder);
-    answers(rt, &mut scan, steps).note("over shifts")
+    answers(rt, &mut scan, steps)
 }
 
 // The calls on new scans whose finders have the list's words.

@@ -144,7 +144,7 @@ fn one_start_and_many(rt: HostRuntime) -> Result<(), Fail> {
     for (list, least, greatest) in GAPS.iter() {
         let mut table = [EMPTY; 3];
         assert_eq!(rt; build(list, &mut table)?, 3);
-        in_bounds(&rt, list, &table, *least, *greatest).note("a row of the table")?;
+        in_bounds(&rt, list, &table, *least, *greatest)?;
     }
     Ok(())
 }

@@ -1,5 +1,6 @@
 // Tests of scans: the ends of landmarks in images, the refusals of every call, and orders.
 #![tactic(auto)]
+
 #[cfg(test)]
 mod calls;
 #[cfg(test)]

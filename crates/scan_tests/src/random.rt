@@ -248,11 +248,11 @@ fn on_the_whole<'a>(
     let mut links = LinkFinder::new();
     links.mount(case.whole.as_slice(), &whole.nodes)?;
     let mut by_links = Scan::new(links);
-    follow(rt, &mut by_links, case, size).note("over links")?;
+    follow(rt, &mut by_links, case, size)?;
     let mut shifts = ShiftFinder::new();
     shifts.mount(case.whole.as_slice(), &whole.numbers)?;
     let mut by_shifts = Scan::new(shifts);
-    follow(rt, &mut by_shifts, case, 3).note("over shifts")?;
+    follow(rt, &mut by_shifts, case, 3)?;
     assert!(rt; agree(&by_links, &by_shifts));
     Ok(())
 }
@@ -269,7 +269,7 @@ fn on_both_parts<'a>(
     let mut right = ShiftFinder::new();
     right.mount(case.right.as_slice(), &two.numbers)?;
     let mut by_pair = Scan::new(Pair { left, right });
-    follow(rt, &mut by_pair, case, size).note("over links and shifts")?;
+    follow(rt, &mut by_pair, case, size)?;
     let mut front = ShiftFinder::new();
     front.mount(case.left.as_slice(), &one.numbers)?;
     let mut rear = LinkFinder::new();
@@ -278,7 +278,7 @@ fn on_both_parts<'a>(
         left: front,
         right: rear,
     });
-    follow(rt, &mut by_other, case, 100).note("over shifts and links")?;
+    follow(rt, &mut by_other, case, 100)?;
     assert!(rt; agree(&by_pair, &by_other));
     Ok(())
 }

@@ -77,7 +77,7 @@ fn known_ends(rt: HostRuntime) -> Result<(), Fail> {
             (Call::Offer(0, image), 0, image.len()),
             (Call::Ask(0), 0, *end),
         ];
-        on_each_finder(&rt, list, &steps).note("a row of the table")?;
+        on_each_finder(&rt, list, &steps)?;
     }
     Ok(())
 }

@@ -1,5 +1,6 @@
 // The shift finder: all words in the bits of one register, for lists of few run bytes.
 #![tactic(auto)]
+
 mod admit;
 mod compare;
 mod edges;

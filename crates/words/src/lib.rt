@@ -1,5 +1,6 @@
 // An index of a list's words, so that each word is at hand at once.
 #![tactic(auto)]
+
 mod ask;
 mod read;
 mod words;

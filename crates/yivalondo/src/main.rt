@@ -1,5 +1,6 @@
 // The program on a bench: images scanned as a meter scans them, landmark lists, and their words found in images.
 #![tactic(auto)]
+
 mod cuts;
 mod find;
 mod input;
