@@ -1,9 +1,9 @@
 -- Scanning a whole image in blocks.
-use Rattle.std.proofs.Common.{◌≡◌, ℕ, ◌≤◌, List, length, Some, None, Ok, Err, Result, sym, ap, ◌∙◌, arith}
+use Rattle.std.proofs.Common.{◌≡◌, ℕ, ◌≤◌, List, length, None, Ok, Err, Result, sym, ap, ◌∙◌}
 use Prim.{tt}
 use Rattle.std.proofs.lemmas.List.{take_all}
 use Rattle.landmark.specs.declared.refusal.Fault.{Fault}
-use Rattle.scan.specs.History.{Status, open_on}
+use Rattle.scan.specs.History.{open_on}
 use Rattle.scan.specs.Rules.{Line, facts, refusal, open_refusal}
 use Rattle.scan.specs.Calls.{Made, Opened, own_facts}
 use Rattle.scan.proofs.Facts.{own_is}

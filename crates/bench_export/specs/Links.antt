@@ -1,5 +1,5 @@
 -- What is answered of link tables.
-use Rattle.std.specs.Prelude.{◌≡◌, ℕ, Bool, true, false, ◌⊎◌, List, length, None, Ok, Err, Result}
+use Rattle.std.specs.Prelude.{◌≡◌, ℕ, Bool, true, false, ◌⊎◌, List, length, None, Result}
 use Rattle.landmark.specs.Grammar.{words_of}
 use Rattle.landmark.specs.declared.refusal.Fault.{Fault}
 use Rattle.link.specs.Building.{Builds}

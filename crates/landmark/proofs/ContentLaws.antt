@@ -1,8 +1,7 @@
 -- What it says of the bytes that an item stands there.
-use Rattle.std.proofs.Common.{◌≡◌, ℕ, ◌+◌, ◌-◌, ◌*◌, ◌/◌, ◌%◌, ◌<◌, ◌≤◌, Bool, true, false, cond, ◌&&◌, eqb, leb, List, [], ◌∷◌, ◌++◌, length, get_or, take, drop, Some, None, Ok, Err, Result, sym, refl, ap, ◌∙◌, subst, arith}
+use Rattle.std.proofs.Common.{◌≡◌, ℕ, ◌+◌, ◌-◌, ◌*◌, ◌/◌, ◌%◌, ◌<◌, ◌≤◌, Bool, true, false, cond, eqb, leb, List, [], ◌∷◌, ◌++◌, length, get_or, None, Ok, Err, Result, sym, refl, ap, ◌∙◌, subst, arith}
 use Rattle.std.proofs.lemmas.Bool.{eqb-true, leb-true, and_parts, cond-true}
-use Rattle.std.proofs.lemmas.Bool.Decides.{nat_tests}
-use Rattle.landmark.specs.Records.{Item, start, run, gap, star, any, unfit, kind_of, body_of, as_two, bare, start_of, run_of, gap_of, item_of, is_whole, item_at, two_bytes, body_at}
+use Rattle.landmark.specs.Records.{Item, start, run, star, any, unfit, kind_of, body_of, as_two, bare, start_of, run_of, gap_of, item_of, is_whole, item_at, two_bytes, body_at}
 use Rattle.landmark.specs.declared.element.Role.TheVariants.{Entry, Bar}
 use Rattle.landmark.specs.declared.refusal.Refusal.{Refusal}
 

@@ -1,12 +1,12 @@
 -- The rows of records that judging accepts are those of well-formed landmarks.
-use Rattle.std.proofs.Common.{◌≡◌, ℕ, suc, ◌+◌, ◌<◌, ◌≤◌, Bool, true, false, cond, not, ◌||◌, ltb, leb, ◌⊎◌, List, [], ◌∷◌, ◌++◌, map, length, Some, None, Option, sym, refl, ap, ◌∙◌, subst, inl, inr, add-zero, add_assoc, zero-add, arith}
+use Rattle.std.proofs.Common.{◌≡◌, ℕ, ◌+◌, ◌<◌, ◌≤◌, true, false, List, [], ◌∷◌, ◌++◌, length, Some, None, Option, sym, refl, ap, ◌∙◌, subst, add-zero, add_assoc, zero-add, arith}
 use Rattle.std.proofs.lemmas.List.{append_assoc, append-nil, length-append, length-map}
 use Rattle.std.proofs.lemmas.Bool.Decides.{nat_tests}
 use Rattle.std.specs.List.{flat_map, AllByRecursion as All}
 use Rattle.occurrence.specs.Occurrence.{Gap}
 use Rattle.landmark.specs.Records.{Item, start, run, gap, star, any, unfit}
-use Rattle.landmark.specs.Lists.{Row, newest, sort_of, landmarks_in, words_in, bytes_in, gap_since, allowance, no_gap, plus, both, too_wide, may_follow, closes_too_wide, is_one_too_many, row_refusal, ends_well}
-use Rattle.landmark.specs.Grammar.{Step, Landmark, step_items, landmark_items, list_items, gap_of, GoodOperator, GoodStep, BeginsWithAWord, GoodLandmark, all_words, words_of_landmark, WellFormed, Groups, grouped, put_operator, with_operator, with_start}
+use Rattle.landmark.specs.Lists.{Row, newest, sort_of, landmarks_in, words_in, gap_since, allowance, no_gap, plus, both, too_wide, may_follow, row_refusal, ends_well}
+use Rattle.landmark.specs.Grammar.{Step, Landmark, step_items, list_items, gap_of, GoodOperator, GoodStep, BeginsWithAWord, GoodLandmark, all_words, words_of_landmark, WellFormed, Groups, grouped, put_operator, with_operator, with_start}
 use Rattle.landmark.specs.declared.element.Role.{Role}
 use Rattle.landmark.specs.declared.judge.Sort.{Sort}
 use Rattle.landmark.specs.declared.judge.Sort.TheVariants as S

@@ -2,7 +2,6 @@
 use Rattle.std.proofs.Common.{◌≡◌, ℕ, ◌∷◌, refl, arith}
 use Rattle.landmark.specs.Records.{Item, start, run, gap, star, any}
 use Rattle.landmark.specs.Lists.{Row, sort_of, landmarks_in, words_in, bytes_in, gap_since, plus, allowance}
-use Rattle.landmark.specs.declared.judge.Sort.{Sort}
 use Rattle.landmark.specs.declared.judge.Sort.TheVariants as S
 
 -- an operator adds to the gap alone

@@ -1,9 +1,8 @@
 -- The records of a list, one after another.
-use Rattle.std.proofs.Common.{◌≡◌, ℕ, zero, suc, ◌+◌, ◌-◌, ◌<◌, ◌≤◌, Bool, true, false, cond, leb, List, [], ◌∷◌, length, Some, None, Ok, Err, Option, Result, sym, refl, ap, ◌∙◌, subst, arith}
+use Rattle.std.proofs.Common.{◌≡◌, ℕ, zero, suc, ◌+◌, ◌<◌, ◌≤◌, cond, leb, List, ◌∷◌, length, Ok, Err, Option, sym, refl, ap, ◌∙◌, arith}
 use Rattle.std.proofs.lemmas.Bool.{le-leb, lt-leb, cond-true, cond-false}
-use Rattle.std.proofs.lemmas.Bool.Decides.{nat_tests}
 use Rattle.landmark.specs.Records.{Item, item_at, after}
-use Rattle.landmark.specs.Lists.{Row, Parts, ended, broken, part, part_of, parts, parts_from, judged, unless, row_refusal, sort_of}
+use Rattle.landmark.specs.Lists.{Row, ended, broken, part, part_of, parts, parts_from, judged, unless, row_refusal, sort_of}
 use Rattle.landmark.specs.Grammar.{items_of, runs_of, words_from}
 use Rattle.landmark.specs.declared.refusal.Refusal.{Refusal}
 use Rattle.landmark.proofs.ContentLaws.{stands}

@@ -1,17 +1,17 @@
 -- A list is accepted exactly if its bytes are those of well-formed landmarks.
 use Rattle.std.proofs.Common.{◌≡◌, ℕ, zero, suc, ◌+◌, ◌-◌, ◌<◌, ◌≤◌, Bool, true, false, cond, leb, List, [], ◌∷◌, ◌++◌, map, length, get_or, take, drop, Some, None, Ok, Err, Option, Result, sym, refl, ap, ◌∙◌, subst, ⊎_elim, add-zero, add_assoc, zero-add, arith}
 use Rattle.std.proofs.ByRecursion.{All-append}
-use Rattle.std.proofs.lemmas.List.{append_assoc, append-nil, drop_all, drop_at, drop-drop, drop_more, length-append, length-drop, length-map, length-take, take-append-drop, take_at, get_or-drop}
-use Rattle.std.proofs.lemmas.Bool.{cond-true, cond-false, le-leb, lt-leb, leb-true, leb-false, cases_lt}
+use Rattle.std.proofs.lemmas.List.{drop_all, drop_at, drop-drop, drop_more, length-drop, length-take, take-append-drop, get_or-drop}
+use Rattle.std.proofs.lemmas.Bool.{cond-true, cond-false, le-leb, lt-leb, cases_lt}
 use Rattle.std.specs.List.{flat_map, AllByRecursion as All}
 use Rattle.landmark.specs.Records.{Item, start, run, gap, star, any, unfit, encoding, item_at, after, two_bytes, body_at, body_of, kind_of, as_two}
 use Rattle.landmark.specs.Lists.{Row, Parts, ended, broken, part, part_of, parts, parts_from, judged, unless, counts, list_verdict, newest, ends_well, row_refusal, sort_of, landmarks_in, words_in, bytes_in}
-use Rattle.landmark.specs.Grammar.{Step, Landmark, Groups, GoodOperator, GoodStep, GoodLandmark, WellFormed, IsListOf, step_items, landmark_items, grouped, put_operator, with_operator, items_of, runs_of, landmarks_of, list_items, list_bytes, list_counts, all_words, sizes, AcceptedExactly}
+use Rattle.landmark.specs.Grammar.{Step, Landmark, Groups, GoodOperator, GoodStep, GoodLandmark, IsListOf, step_items, landmark_items, grouped, put_operator, with_operator, items_of, runs_of, landmarks_of, list_items, list_counts, all_words, sizes, AcceptedExactly}
 use Rattle.landmark.specs.declared.judge.Sort.TheVariants as S
 use Rattle.landmark.specs.declared.list.Counts.{Counts}
 use Rattle.landmark.specs.declared.refusal.Refusal.{Refusal}
 use Rattle.landmark.specs.declared.refusal.Fault.{Fault}
-use Rattle.landmark.proofs.ContentLaws.{Bytes, Stands, stands, two_split}
+use Rattle.landmark.proofs.ContentLaws.{Bytes, stands, two_split}
 use Rattle.landmark.proofs.GrammarLaws.{Accepts, accepted_well_formed, well_formed_accepted, grouped-list}
 use Rattle.landmark.proofs.JudgeLaws.{adds_gap}
 use Rattle.landmark.proofs.ListLaws.{parts-at_end, parts-at_record, parts-at_fault}

@@ -2,7 +2,7 @@
 use Rattle.std.specs.Prelude.{◌≡◌, ℕ, ◌+◌, ◌<◌, ◌≤◌, false, List, [], ◌∷◌, ◌++◌, map, length, Some, None, Ok, Err, Option, Result}
 use Rattle.std.specs.List.{flat_map, AllByRecursion as All}
 use Rattle.occurrence.specs.Occurrence.{Gap, Pattern, last, then}
-use Rattle.landmark.specs.Records.{Item, start, run, gap, star, any, encoding, unfit, longest_run}
+use Rattle.landmark.specs.Records.{Item, start, run, gap, star, any, encoding, unfit}
 use Rattle.landmark.specs.Lists.{Parts, ended, broken, part, parts_from, sort_of, allowance, no_gap, plus, too_wide, most_landmarks, most_words}
 use Rattle.landmark.specs.declared.element.Role.{Role}
 use Rattle.landmark.specs.declared.judge.Sort.TheVariants.{Operator}

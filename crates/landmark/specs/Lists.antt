@@ -1,5 +1,5 @@
 -- A whole list: its records in order, and how it is judged, record by record.
-use Rattle.std.specs.Prelude.{ℕ, zero, suc, ◌+◌, Bool, true, false, cond, not, ◌&&◌, ◌||◌, List, [], ◌∷◌, length, Some, None, Ok, Err, Option, Result, nat_le, nat_lt}
+use Rattle.std.specs.Prelude.{ℕ, zero, suc, ◌+◌, Bool, true, false, cond, not, ◌||◌, List, [], ◌∷◌, length, Some, None, Ok, Err, Option, Result, nat_le, nat_lt}
 use Rattle.occurrence.specs.Occurrence.{Gap}
 use Rattle.landmark.specs.Records.{Item, start, run, gap, star, any, item_at, after, or_else, widest_gap}
 use Rattle.landmark.specs.declared.list.Counts.{Counts}

@@ -1,8 +1,7 @@
 -- The records of a list: what stands at a place, and the bytes of an element.
-use Rattle.std.specs.Prelude.{◌≡◌, ℕ, ◌+◌, ◌-◌, ◌*◌, ◌/◌, ◌%◌, ◌<◌, ◌≤◌, Bool, true, false, cond, not, ◌&&◌, ◌||◌, List, [], ◌∷◌, ◌++◌, length, take, drop, Some, None, Ok, Err, Option, Result, ◌==◌, nat_le, slice_index}
+use Rattle.std.specs.Prelude.{◌≡◌, ℕ, ◌+◌, ◌-◌, ◌*◌, ◌/◌, ◌%◌, Bool, cond, ◌&&◌, List, [], ◌∷◌, ◌++◌, length, take, drop, Some, None, Ok, Err, Option, Result, ◌==◌, nat_le, slice_index}
 use Rattle.landmark.specs.declared.element.Role.{Role}
 use Rattle.landmark.specs.declared.element.Role.TheVariants.{Entry, Bar}
-use Rattle.landmark.specs.declared.element.Gap as G
 use Rattle.landmark.specs.declared.element.Element.{Element}
 use Rattle.landmark.specs.declared.element.Element.TheVariants as E
 use Rattle.landmark.specs.declared.element.Read.{Read}

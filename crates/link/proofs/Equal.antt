@@ -1,8 +1,6 @@
 -- When two entries are equal.
-use Rattle.std.proofs.Common.{◌≡◌, Bool, true, false, not, Decides, refl, arith, rules}
+use Rattle.std.proofs.Common.{◌≡◌, Bool, not, Decides, arith, rules}
 use Rattle.std.proofs.lemmas.Bool.Decides.{nat_tests}
-use Rattle.std.proofs.lemmas.Bool.{false≢true}
-use Rattle.std.proofs.lemmas.Bool.Decides.{Decides-at, Decides-not}
 use Rattle.link.specs.contracts.node.NodePartialEq.TheImpl.{ghosts}
 use Rattle.link.specs.declared.node.Node.{Node}
 

@@ -1,5 +1,5 @@
 -- The mask of the words that a string ends with, word by word.
-use Rattle.std.proofs.Common.{◌≡◌, ℕ, suc, ◌+◌, ◌-◌, ◌*◌, ◌%◌, ◌^◌, ◌<◌, Bool, true, false, cond, List, [], ◌∷◌, ◌++◌, length, take, drop, nat_eq, Decides, sym, refl, ap, ◌∙◌, subst, one-mul, arith}
+use Rattle.std.proofs.Common.{◌≡◌, ℕ, suc, ◌+◌, ◌-◌, ◌*◌, ◌%◌, ◌^◌, ◌<◌, Bool, true, false, cond, List, [], ◌∷◌, ◌++◌, length, take, drop, nat_eq, sym, refl, ap, ◌∙◌, subst, one-mul, arith}
 use native.Mathlib.Nat.{pow-succ'}
 use lib.Bits.{bit_or, or_shifted_r}
 use Rattle.std.specs.Cmp.Lexicographic.{pointwise}

@@ -1,5 +1,5 @@
 -- What the tests of the search tell, and that the search finds a landmark's end.
-use Rattle.std.proofs.Common.{◌≡◌, ℕ, zero, suc, ◌+◌, ◌-◌, ◌<◌, ◌≤◌, Bool, false, ◌&&◌, leb, ◌⊎◌, List, [], ◌∷◌, length, Some, None, Decides, Option, refl, subst, inl, inr, ⊎_elim, arith}
+use Rattle.std.proofs.Common.{◌≡◌, ℕ, zero, suc, ◌+◌, ◌<◌, ◌≤◌, Bool, false, ◌&&◌, leb, ◌⊎◌, List, [], ◌∷◌, length, Some, None, Decides, Option, refl, subst, inl, inr, ⊎_elim, arith}
 use Rattle.std.proofs.lemmas.Bool.{leb-true, le-leb, cases_eq, cond_both}
 use Rattle.std.proofs.lemmas.Bool.Decides.{Decides-and, Decides-or, Decides-like, Decides-eqb, not_from_Decides}
 use Rattle.occurrence.specs.Occurrence.{Gap, Pattern, last, then, Ends, AtMost, Keeps, Goes_on, Occurs, IsEnd}

@@ -1,16 +1,16 @@
 -- What is still to come of a plan, one record after another.
 use Rattle.std.proofs.Common.{◌≡◌, ℕ, zero, suc, ◌+◌, ◌-◌, ◌<◌, ◌≤◌, List, [], ◌∷◌, ◌++◌, map, length, take, Some, None, Option, sym, refl, ap, ◌∙◌, subst, add-zero, zero-add, add-one, arith}
 use Rattle.std.proofs.lemmas.List.{append_assoc, append-nil, length-append, length-map, length-take, map-append}
-use Rattle.std.specs.List.{flat_map, AllByRecursion as All}
-use Rattle.occurrence.specs.Occurrence.{Gap, Pattern, last, then}
+use Rattle.std.specs.List.{AllByRecursion as All}
+use Rattle.occurrence.specs.Occurrence.{Gap, Pattern}
 use Rattle.reach.specs.Reached.{more_words, nth_word, gap_behind}
-use Rattle.landmark.specs.Records.{Item, start, run, gap, star, any}
-use Rattle.landmark.specs.Lists.{plus, no_gap, allowance}
+use Rattle.landmark.specs.Records.{Item, start, run}
+use Rattle.landmark.specs.Lists.{no_gap, allowance}
 use Rattle.landmark.specs.Grammar.{Step, Landmark, Groups, GoodLandmark, WellFormed, BeginsWithAWord, words_of_landmark, all_words, gap_of, grouped, with_operator, put_operator, chain, pattern_of}
 use Rattle.landmark.specs.Spacings.{capped}
 use Rattle.landmark.specs.declared.element.Role.{Role}
 use Rattle.landmark.proofs.GrammarLaws.{plus_assoc, plus_none}
-use Rattle.plan.specs.Seats.{Seat, PlanOf, front_of, role_of, seats, seats_from, spot_of}
+use Rattle.plan.specs.Seats.{PlanOf, role_of, seats, seats_from, spot_of}
 use Rattle.plan.specs.Reading.{SoFar, Small, AddsLandmark, AddsWord, front_so_far, with_gap, later_spots, next_spots, spots_to_come}
 use Rattle.plan.specs.declared.plan.Front.{Front}
 use Rattle.plan.specs.declared.plan.Front.TheVariants.{First, Behind}

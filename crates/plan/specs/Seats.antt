@@ -1,6 +1,6 @@
 -- The words of a list by their places in their landmarks, and what a plan keeps of them.
-use Rattle.std.specs.Prelude.{◌≡◌, ℕ, zero, suc, ◌+◌, ◌≤◌, List, [], ◌∷◌, ◌++◌, map, length, take, Some, None}
-use Rattle.occurrence.specs.Occurrence.{Gap, Pattern, last, then}
+use Rattle.std.specs.Prelude.{◌≡◌, ℕ, zero, suc, List, [], ◌∷◌, ◌++◌, map, length, take}
+use Rattle.occurrence.specs.Occurrence.{Pattern}
 use Rattle.reach.specs.Reached.{more_words, nth_word, gap_behind}
 use Rattle.landmark.specs.Grammar.{Landmark, pattern_of}
 use Rattle.landmark.specs.declared.element.Role.{Role}

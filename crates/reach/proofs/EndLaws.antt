@@ -1,8 +1,8 @@
 -- A landmark's end, as the image gets longer.
-use Rattle.std.proofs.Common.{◌≡◌, ℕ, suc, ◌+◌, ◌<◌, ◌≤◌, List, [], ◌∷◌, ◌++◌, length, Some, None, Option, sym, refl, ap, ◌∙◌, subst, ⊎_elim, arith}
+use Rattle.std.proofs.Common.{◌≡◌, ℕ, suc, ◌+◌, List, [], ◌∷◌, ◌++◌, length, Some, None, subst, ⊎_elim, arith}
 use Rattle.std.proofs.lemmas.List.{length-append}
 use Rattle.std.proofs.lemmas.Bool.{cases_lt}
-use Rattle.occurrence.specs.Occurrence.{Pattern, last, Occurs, Smallest, IsEnd}
+use Rattle.occurrence.specs.Occurrence.{Pattern, Occurs, IsEnd}
 use Rattle.occurrence.proofs.SearchLaws.{occurs-within}
 use Rattle.reach.proofs.Reaching.{occurs-longer, occurs-shorter}
 

@@ -6,7 +6,7 @@ use Rattle.nodes.specs.Nodes.{back_link, strings, suffix_mask}
 use Rattle.shift.specs.Table as S
 use Rattle.landmark.specs.Records.{Item, gap, star}
 use Rattle.landmark.specs.Lists.{list_verdict, fault}
-use Rattle.landmark.specs.Grammar.{Step, Landmark, landmarks_of, list_bytes, pattern_of}
+use Rattle.landmark.specs.Grammar.{Landmark, landmarks_of, list_bytes, pattern_of}
 use Rattle.landmark.specs.declared.element.Role.TheVariants.{Entry}
 use Rattle.landmark.specs.declared.refusal.Refusal.TheVariants.{CutRecord, Misplaced, GapTooWide}
 

@@ -13,7 +13,7 @@ use Rattle.plan.specs.Seats.{PlanOf}
 use Rattle.track.specs.Tracking.{NothingFound}
 use Rattle.track.proofs.Ends.{nothing_found}
 use Rattle.scan.specs.Announced.{most_announced}
-use Rattle.scan.specs.History.{Opening, open_on, out}
+use Rattle.scan.specs.History.{Opening, open_on}
 use Rattle.scan.specs.Rules.{Line, line, refusal, out_line, words_line, first_other, open_refusal}
 use Rattle.scan.specs.Calls.{Upon, OpenOn, Opened}
 use Rattle.scan.proofs.Comparing.{no_other}

@@ -1,4 +1,4 @@
-use Rattle.std.proofs.Common.{◌≡◌, ◌+◌, length, get_or, take, refl, ap, arith}
+use Rattle.std.proofs.Common.{◌≡◌, ◌+◌, length, take, refl, ap, arith}
 use Rattle.std.proofs.lemmas.List.{take_more}
 use Rattle.finder.specs.Words.{Heard}
 use Rattle.finder.proofs.Hearing.{heard_nothing, heard_more}

@@ -1,5 +1,5 @@
-use Rattle.std.proofs.Common.{◌≡◌, Some, None, sym, refl, ap, ◌∙◌, subst, rules}
-use Rattle.landmark.specs.Lists.{row_refusal, sort_of, gap_since, allowance}
+use Rattle.std.proofs.Common.{◌≡◌, Some, None, sym, ap, ◌∙◌, rules}
+use Rattle.landmark.specs.Lists.{row_refusal, gap_since, allowance}
 use Rattle.landmark.specs.Spacings.{capped}
 use Rattle.landmark.specs.declared.judge.Sort.TheVariants as S
 use Rattle.landmark.proofs.JudgeLaws.{adds_gap}

@@ -1,5 +1,5 @@
 use Rattle.std.proofs.Common.{ℕ, ◌<◌, List, length, sym, refl, ap, ◌∙◌, subst}
-use Rattle.finder.specs.Words.{half_read, mask}
+use Rattle.finder.specs.Words.{half_read}
 use Rattle.nodes.specs.Nodes.{string, strings}
 use Rattle.nodes.proofs.Meaning.{half_read-step, suffix_mask-is}
 use Rattle.link.specs.Meaning.{words_in, string_at}

@@ -1,6 +1,5 @@
 use Rattle.std.proofs.Common.{[], ◌∷◌, ◌++◌, take, refl, ap, ◌∙◌, arith}
 use Rattle.std.proofs.lemmas.List.{take_more_set}
-use Rattle.plan.specs.declared.plan.Spot.{Spot}
 use Rattle.plan.proofs.plan.Plan.add_word.Goals as goal
 
 pub returns-then-self-lt64 : goal.returns-then-self-lt64

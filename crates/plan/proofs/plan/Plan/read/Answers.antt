@@ -1,11 +1,11 @@
-use Rattle.std.proofs.Common.{◌≡◌, ℕ, Ok, Err, sym, refl, ap, ◌∙◌, subst, arith}
+use Rattle.std.proofs.Common.{◌≡◌, ℕ, sym, subst, arith}
 use Rattle.landmark.specs.Grammar.{items_of, landmarks_of}
-use Rattle.landmark.specs.Lists.{ended, parts_from, list_verdict}
+use Rattle.landmark.specs.Lists.{ended, parts_from}
 use Rattle.landmark.specs.Records.{item, after}
 use Rattle.landmark.proofs.ContentLaws.{stands}
 use Rattle.landmark.proofs.ListLaws.{parts-at_record}
 use Rattle.landmark.proofs.VerdictLaws.{Complete, accepted_complete, accepted_together, complete_record, complete_fault}
-use Rattle.plan.specs.Reading.{SoFar, Small}
+use Rattle.plan.specs.Reading.{SoFar}
 use Rattle.plan.proofs.ReadingLaws.{small, so_far_none, so_far_end}
 use Rattle.plan.proofs.plan.Plan.read.Goals as goal
 

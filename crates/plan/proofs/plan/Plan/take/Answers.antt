@@ -1,7 +1,6 @@
-use Rattle.std.proofs.Common.{◌≡◌, ◌∷◌, sym, refl, ap, subst, rules}
+use Rattle.std.proofs.Common.{◌∷◌, sym, refl, subst, rules}
 use Rattle.landmark.specs.Lists.{allowance}
 use Rattle.landmark.specs.Records.{Item, item, gap, star, any}
-use Rattle.landmark.specs.Spacings.{capped}
 use Rattle.landmark.specs.declared.element.Element.{Element}
 use Rattle.landmark.specs.declared.spacing.Spacing.{Spacing}
 use Rattle.plan.specs.Reading.{SoFar}
