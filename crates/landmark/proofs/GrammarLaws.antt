@@ -2,7 +2,7 @@
 use Rattle.std.proofs.Common.{◌≡◌, ℕ, ◌+◌, ◌<◌, ◌≤◌, true, false, List, [], ◌∷◌, ◌++◌, length, Some, None, Option, sym, refl, ap, ◌∙◌, subst, add-zero, add_assoc, zero-add, arith}
 use Rattle.std.proofs.lemmas.List.{append_assoc, append-nil, length-append, length-map}
 use Rattle.std.proofs.lemmas.Bool.Decides.{nat_tests}
-use Rattle.std.specs.List.{flat_map, AllByRecursion as All}
+use Rattle.std.specs.List.{flat_map, AllByRecursion}
 use Rattle.occurrence.specs.Occurrence.{Gap}
 use Rattle.landmark.specs.Records.{Item, start, run, gap, star, any, unfit}
 use Rattle.landmark.specs.Lists.{Row, newest, sort_of, landmarks_in, words_in, gap_since, allowance, no_gap, plus, both, too_wide, may_follow, row_refusal, ends_well}
@@ -75,24 +75,24 @@ First (Some S.Operator) ss ms = 1 ≤ length ss
 -- good steps, the first of them behind operators that make up the gap g already
 abbrev StepsBehind : Gap → List Step → Type 0
 StepsBehind g [] = Unit {0}
-StepsBehind g (s ∷ ss) = All GoodOperator s.operators × (too_wide (plus g (gap_of s.operators)) ≡ false) × Fit (run s.word) × All GoodStep ss
+StepsBehind g (s ∷ ss) = AllByRecursion GoodOperator s.operators × (too_wide (plus g (gap_of s.operators)) ≡ false) × Fit (run s.word) × AllByRecursion GoodStep ss
 
 -- what records that are accepted behind a row are put together to
 record Rest (row : Row) (is : List Item) (g : Groups) : Type 0 where
   items : flat_map step_items g.steps ++ list_items g.landmarks ≡ is
   first : First (newest row) g.steps g.landmarks
   steps : StepsBehind (gap_since row) g.steps
-  each : All GoodLandmark g.landmarks
+  each : AllByRecursion GoodLandmark g.landmarks
   few : landmarks_in row + length g.landmarks ≤ 32
   few_words : words_in row + (length g.steps + length (all_words g.landmarks)) ≤ 64
 
 -- steps behind no operators are good steps
-good_steps : (ss : List Step) → StepsBehind no_gap ss → All GoodStep ss
+good_steps : (ss : List Step) → StepsBehind no_gap ss → AllByRecursion GoodStep ss
 good_steps [] h = tt
 good_steps (s ∷ ss) (ops, narrow, word, more) =
     (record { operators = ops; narrow = subst (λ g. too_wide g ≡ false) (plus_none (gap_of s.operators)).1 narrow; word = word }, more)
 
-steps_behind : (ss : List Step) → All GoodStep ss → StepsBehind no_gap ss
+steps_behind : (ss : List Step) → AllByRecursion GoodStep ss → StepsBehind no_gap ss
 steps_behind [] h = tt
 steps_behind (s ∷ ss) (good, more) =
     (good.operators, subst (λ g. too_wide g ≡ false) (sym (plus_none (gap_of s.operators)).1) good.narrow, good.word, more)
@@ -176,7 +176,7 @@ put-before i row is (s ∷ ss) ms sort fit e r =
     goes (Some S.Operator) m = omega arith
 
 -- what is accepted behind a small row, put together
-rest_of : (is : List Item) (row : Row) → Small row → All Fit is → Accepts row is → Rest row is (grouped is)
+rest_of : (is : List Item) (row : Row) → Small row → AllByRecursion Fit is → Accepts row is → Rest row is (grouped is)
 rest_of [] row small fit e = at_end row small e
 rest_of (start role ∷ is) row small fit (e, more) =
     let free = starts_freely row e in
@@ -189,7 +189,7 @@ rest_of (star ∷ is) row small fit (e, more) = put-before star row is _ _ refl 
 rest_of (any ∷ is) row small fit (e, more) = put-before any row is _ _ refl fit.0 e (rest_of is (any ∷ row) small fit.1 more)
 
 -- records that are accepted are those of well-formed landmarks
-pub accepted_well_formed : (is : List Item) → All Fit is → Accepts [] is → WellFormed (grouped is).landmarks × (list_items (grouped is).landmarks ≡ is)
+pub accepted_well_formed : (is : List Item) → AllByRecursion Fit is → Accepts [] is → WellFormed (grouped is).landmarks × (list_items (grouped is).landmarks ≡ is)
 accepted_well_formed is fit a =
     let r = rest_of is [] (omega arith, omega arith) fit a in
     let none = r.first.0 in (
@@ -212,7 +212,7 @@ record ReadRun (row next : Row) : Type 0 where
   gap_is : gap_since next ≡ no_gap
 
 -- operators and the run behind them are accepted where their sums are narrow
-accepts_step : (ops : List Item) (w : List ℕ) (row : Row) (tail : List Item) → All GoodOperator ops → too_wide (plus (gap_since row) (gap_of ops)) ≡ false → words_in row < 64 → MayRead (newest row) ops → ((next : Row) → ReadRun row next → Accepts next tail) → Accepts row (ops ++ (run w ∷ tail))
+accepts_step : (ops : List Item) (w : List ℕ) (row : Row) (tail : List Item) → AllByRecursion GoodOperator ops → too_wide (plus (gap_since row) (gap_of ops)) ≡ false → words_in row < 64 → MayRead (newest row) ops → ((next : Row) → ReadRun row next → Accepts next tail) → Accepts row (ops ++ (run w ∷ tail))
 accepts_step [] w row tail good narrow few may more = (
   may_run row (run_may (newest row) may) (subst (λ g. too_wide g ≡ false) (plus_none (gap_since row)).0 narrow) few,
   more (run w ∷ row) (record { newest-is = refl; landmarks = refl; words = refl; gap_is = refl }),
@@ -258,7 +258,7 @@ go_first [] b = absurd b
 go_first (s ∷ ss) b = b
 
 -- good steps are accepted
-accepts_steps : (ss : List Step) (row : Row) (tail : List Item) → All GoodStep ss → MayGo (newest row) ss → gap_since row ≡ no_gap → words_in row + length ss ≤ 64 → ((next : Row) → ReadSteps row (length ss) next → Accepts next tail) → Accepts row (flat_map step_items ss ++ tail)
+accepts_steps : (ss : List Step) (row : Row) (tail : List Item) → AllByRecursion GoodStep ss → MayGo (newest row) ss → gap_since row ≡ no_gap → words_in row + length ss ≤ 64 → ((next : Row) → ReadSteps row (length ss) next → Accepts next tail) → Accepts row (flat_map step_items ss ++ tail)
 accepts_steps [] row tail good may none few more = more row (record { newest-is = may; landmarks = refl; words = sym (add-zero (words_in row)) })
 accepts_steps (s ∷ ss) row tail (good, goods) may none few more =
     let narrow : too_wide (plus (gap_since row) (gap_of s.operators)) ≡ false =
@@ -270,7 +270,7 @@ accepts_steps (s ∷ ss) row tail (good, goods) may none few more =
     (λ last q. more last (record { newest-is = q.newest-is; landmarks = q.landmarks ∙ r.landmarks; words = omega (arith, q.words, r.words) }))))
 
 -- good landmarks are accepted behind a row that a start may follow, and the last of them ends behind a run
-accepts_landmarks : (ms : List Landmark) (row : Row) → All GoodLandmark ms → may_follow (newest row) S.Start ≡ true → (length ms ≡ 0 → newest row ≡ Some S.Run) → landmarks_in row + length ms ≤ 32 → words_in row + length (all_words ms) ≤ 64 → Accepts row (list_items ms)
+accepts_landmarks : (ms : List Landmark) (row : Row) → AllByRecursion GoodLandmark ms → may_follow (newest row) S.Start ≡ true → (length ms ≡ 0 → newest row ≡ Some S.Run) → landmarks_in row + length ms ≤ 32 → words_in row + length (all_words ms) ≤ 64 → Accepts row (list_items ms)
 accepts_landmarks [] row good may ends few words = ap ends_well (ends refl)
 accepts_landmarks (m ∷ ms) row (good, goods) may ends few words =
     let count : length (words_of_landmark m) ≡ length m.steps = length-map m.steps (λ (s : Step). s.word) in
@@ -293,19 +293,19 @@ grouped-operator (gap least greatest) is e = refl
 grouped-operator star is e = refl
 grouped-operator any is e = refl
 
-grouped-step : (ops : List Item) (w : List ℕ) (is : List Item) → All GoodOperator ops → grouped (ops ++ (run w ∷ is)) ≡ record { steps = record { operators = ops; word = w } ∷ (grouped is).steps; landmarks = (grouped is).landmarks }
+grouped-step : (ops : List Item) (w : List ℕ) (is : List Item) → AllByRecursion GoodOperator ops → grouped (ops ++ (run w ∷ is)) ≡ record { steps = record { operators = ops; word = w } ∷ (grouped is).steps; landmarks = (grouped is).landmarks }
 grouped-step [] w is good = refl
 grouped-step (i ∷ ops) w is (good, goods) =
     grouped-operator i (ops ++ (run w ∷ is)) good.operator ∙ ap (with_operator i) (grouped-step ops w is goods)
 
-grouped-steps : (ss : List Step) (is : List Item) → All GoodStep ss → grouped (flat_map step_items ss ++ is) ≡ record { steps = ss ++ (grouped is).steps; landmarks = (grouped is).landmarks }
+grouped-steps : (ss : List Step) (is : List Item) → AllByRecursion GoodStep ss → grouped (flat_map step_items ss ++ is) ≡ record { steps = ss ++ (grouped is).steps; landmarks = (grouped is).landmarks }
 grouped-steps [] is good = refl
 grouped-steps (s ∷ ss) is (good, goods) =
     let items : (step_items s ++ flat_map step_items ss) ++ is ≡ s.operators ++ (run s.word ∷ (flat_map step_items ss ++ is)) = simp append_assoc in
     ap grouped items ∙ grouped-step s.operators s.word (flat_map step_items ss ++ is) good.operators
     ∙ ap (λ (g : Groups). record { steps = s ∷ g.steps; landmarks = g.landmarks }) (grouped-steps ss is goods)
 
-pub grouped-list : (ms : List Landmark) → All GoodLandmark ms → grouped (list_items ms) ≡ record { steps = []; landmarks = ms }
+pub grouped-list : (ms : List Landmark) → AllByRecursion GoodLandmark ms → grouped (list_items ms) ≡ record { steps = []; landmarks = ms }
 grouped-list [] good = refl
 grouped-list (m ∷ ms) (good, goods) =
     let behind = grouped-list ms goods in

@@ -3,7 +3,7 @@ use Rattle.std.proofs.Common.{◌≡◌, ℕ, zero, suc, ◌+◌, ◌-◌, ◌<�
 use Rattle.std.proofs.ByRecursion.{All-append}
 use Rattle.std.proofs.lemmas.List.{drop_all, drop_at, drop-drop, drop_more, length-drop, length-take, take-append-drop, get_or-drop}
 use Rattle.std.proofs.lemmas.Bool.{cond-true, cond-false, le-leb, lt-leb, cases_lt}
-use Rattle.std.specs.List.{flat_map, AllByRecursion as All}
+use Rattle.std.specs.List.{flat_map, AllByRecursion}
 use Rattle.landmark.specs.Records.{Item, start, run, gap, star, any, unfit, encoding, item_at, after, two_bytes, body_at, body_of, kind_of, as_two}
 use Rattle.landmark.specs.Lists.{Row, Parts, ended, broken, part, part_of, parts, parts_from, judged, unless, counts, list_verdict, newest, ends_well, row_refusal, sort_of, landmarks_in, words_in, bytes_in}
 use Rattle.landmark.specs.Grammar.{Step, Landmark, Groups, GoodOperator, GoodStep, GoodLandmark, IsListOf, step_items, landmark_items, grouped, put_operator, with_operator, items_of, runs_of, landmarks_of, list_items, list_counts, all_words, sizes, AcceptedExactly}
@@ -89,7 +89,7 @@ record_bytes l p i bytes e =
 
 -- the records are fit, and theirs are the bytes from the place on
 abbrev Covers : List ℕ → ℕ → Parts → Type 0
-Covers l p ps = All Fit (items_of ps) × (drop p l ≡ flat_map encoding (items_of ps))
+Covers l p ps = AllByRecursion Fit (items_of ps) × (drop p l ≡ flat_map encoding (items_of ps))
 
 covers_one : (l : List ℕ) (p : ℕ) (rest : Parts) (r : Result Item Refusal) → Bytes l → item_at l p ≡ r → (Complete rest → Covers l (after l p) rest) → Complete (part_of r p rest) → Covers l p (part_of r p rest)
 covers_one l p rest (Ok i) bytes e more whole =
@@ -113,7 +113,7 @@ record ReadAs (l : List ℕ) (p : ℕ) (is : List Item) : Type 0 where
   complete : Complete (parts_from l p)
   items : items_of (parts_from l p) ≡ is
 
-covered_read : (is : List Item) (l : List ℕ) (p : ℕ) → All Fit is → drop p l ≡ flat_map encoding is → ReadAs l p is
+covered_read : (is : List Item) (l : List ℕ) (p : ℕ) → AllByRecursion Fit is → drop p l ≡ flat_map encoding is → ReadAs l p is
 covered_read [] l p fit e =
     let none = parts-at_end l p (omega (arith, length-drop p l, ap length e)) in
     record { complete = subst Complete (sym none) tt; items = ap items_of none }
@@ -187,16 +187,16 @@ runs_grouped (star ∷ is) = runs_grouped is ∙ sym (operator_words star (group
 runs_grouped (any ∷ is) = runs_grouped is ∙ sym (operator_words any (grouped is))
 
 -- the records of good landmarks are fit
-fit_operators : (is : List Item) → All GoodOperator is → All Fit is
+fit_operators : (is : List Item) → AllByRecursion GoodOperator is → AllByRecursion Fit is
 fit_operators [] good = tt
 fit_operators (i ∷ is) (good, goods) = (good.fit, fit_operators is goods)
 
-fit_steps : (ss : List Step) → All GoodStep ss → All Fit (flat_map step_items ss)
+fit_steps : (ss : List Step) → AllByRecursion GoodStep ss → AllByRecursion Fit (flat_map step_items ss)
 fit_steps [] good = tt
 fit_steps (s ∷ ss) (good, goods) =
     All-append Fit (step_items s) (flat_map step_items ss) (All-append Fit s.operators (run s.word ∷ []) (fit_operators s.operators good.operators) (good.word, tt)) (fit_steps ss goods)
 
-fit_landmarks : (ms : List Landmark) → All GoodLandmark ms → All Fit (list_items ms)
+fit_landmarks : (ms : List Landmark) → AllByRecursion GoodLandmark ms → AllByRecursion Fit (list_items ms)
 fit_landmarks [] good = tt
 fit_landmarks (m ∷ ms) (good, goods) = All-append Fit (landmark_items m) (list_items ms) (refl, fit_steps m.steps good.steps) (fit_landmarks ms goods)
 

@@ -1,6 +1,6 @@
 -- The grammar of a list, independent of its judging, and what a list holds: its landmarks, words and gaps.
 use Rattle.std.specs.Prelude.{◌≡◌, ℕ, ◌+◌, ◌<◌, ◌≤◌, false, List, [], ◌∷◌, ◌++◌, map, length, Some, None, Ok, Err, Option, Result}
-use Rattle.std.specs.List.{flat_map, AllByRecursion as All}
+use Rattle.std.specs.List.{flat_map, AllByRecursion}
 use Rattle.occurrence.specs.Occurrence.{Gap, Pattern, last, then}
 use Rattle.landmark.specs.Records.{Item, start, run, gap, star, any, encoding, unfit}
 use Rattle.landmark.specs.Lists.{Parts, ended, broken, part, parts_from, sort_of, allowance, no_gap, plus, too_wide, most_landmarks, most_words}
@@ -45,7 +45,7 @@ pub record GoodOperator (i : Item) : Type 0 where
 
 -- a word of 1 to 64 bytes, and operators in front of it whose sums are at most 255
 pub record GoodStep (s : Step) : Type 0 where
-  pub operators : All GoodOperator s.operators
+  pub operators : AllByRecursion GoodOperator s.operators
   pub narrow : too_wide (gap_of s.operators) ≡ false
   pub word : unfit (run s.word) ≡ None
 
@@ -56,7 +56,7 @@ BeginsWithAWord (s ∷ ss) = s.operators ≡ []
 
 pub record GoodLandmark (m : Landmark) : Type 0 where
   pub begins : BeginsWithAWord m.steps
-  pub steps : All GoodStep m.steps
+  pub steps : AllByRecursion GoodStep m.steps
 
 abbrev pub words_of_landmark : Landmark → List (List ℕ)
 words_of_landmark m = map (λ (s : Step). s.word) m.steps
@@ -69,7 +69,7 @@ pub record WellFormed (ms : List Landmark) : Type 0 where
   pub some : 1 ≤ length ms
   pub few : length ms ≤ most_landmarks
   pub few_words : length (all_words ms) ≤ most_words
-  pub each : All GoodLandmark ms
+  pub each : AllByRecursion GoodLandmark ms
 
 abbrev pub sizes : List (List ℕ) → ℕ
 sizes [] = 0

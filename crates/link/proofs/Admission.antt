@@ -1,5 +1,5 @@
 -- What it says that a list and a table go together.
-use Rattle.std.proofs.Common.{◌≡◌, ℕ, ◌+◌, ◌<◌, ◌≤◌, List, length, None, Ok, Err, Result, sym, refl, ap, ◌∙◌, arith}
+use Rattle.std.proofs.Common.{◌≡◌, ℕ, ◌+◌, ◌<◌, ◌≤◌, List, length, sum_by, None, Ok, Err, Result, sym, refl, ap, ◌∙◌, arith}
 use Rattle.std.proofs.lemmas.Bool.Decides.{nat_tests}
 use Rattle.landmark.specs.Grammar.{sizes, words_of}
 use Rattle.landmark.specs.Lists.{list_verdict}
@@ -11,7 +11,7 @@ use Rattle.nodes.specs.Nodes.{strings}
 use Rattle.landmark.specs.Records.{or_else}
 use Rattle.link.specs.Building.{build_refusal, list_fault, no_room}
 use Rattle.link.specs.Mounting.{fault_of, size_fault}
-use Rattle.link.proofs.Making.{nodes_most}
+use Rattle.link.proofs.Making.{nodes_most, sizes-sum}
 
 -- there is room, where the sizes have no fault
 pub has_room : (counts : Counts) (entries : ℕ) → fault_of (Ok counts) entries ≡ None → counts.run_bytes < entries
@@ -44,3 +44,9 @@ same-refusal_by l size w (Err f) is index = ap (λ v. or_else (list_fault v) (no
 
 pub same-refusal : (l : List ℕ) (size : ℕ) (w : Words) → Indexes l w → build_refusal l size ≡ size_fault l size
 same-refusal l size w index = same-refusal_by l size w (list_verdict l) refl index
+
+-- so a table has more entries than the words of an admitted list have bytes
+pub room : (l : List ℕ) (entries : ℕ) (w : Words) → size_fault l entries ≡ None → Indexes l w → sum_by length (indexed w) < entries
+room l entries w none index =
+    let good = admitted l entries w none index in
+    omega (arith, good.bytes, sizes-sum (indexed w))

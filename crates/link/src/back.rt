@@ -7,7 +7,6 @@ ghost use Rattle.nodes.specs.Nodes.{back_link, string, strings};
 
 use crate::follow::follow;
 use crate::node::Node;
-use crate::root::from_root;
 
 // The most symbols of a word, and so the greatest depth of a node.
 const LONGEST_WORD: u8 = 64;
@@ -21,8 +20,7 @@ pub(crate) fn back_of(table: &[Node], at: usize, byte: u8) -> usize
     if at == 0 {
         return 0;
     }
-    let top = from_root(table, byte);
-    follow(table, table[at].back as usize, byte, top)
+    follow(table, table[at].back as usize, byte)
 }
 
 // Links a child of a node back, and joins the words found there.

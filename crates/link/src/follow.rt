@@ -4,6 +4,7 @@ ghost use Rattle.link.specs.Table.{Backed, Child, Leads, Tree};
 ghost use Rattle.nodes.specs.Nodes.{string};
 
 use crate::node::Node;
+use crate::root::from_root;
 
 // The child of a node for a byte.
 pub(crate) fn child_of(table: &[Node], at: usize, byte: u8) -> Option<usize>
@@ -21,8 +22,18 @@ pub(crate) fn child_of(table: &[Node], at: usize, byte: u8) -> Option<usize>
     None
 }
 
-// The node that a byte leads to: back links are followed until a node has a child for it; from the root it leads to `top`.
-pub(crate) fn follow(table: &[Node], from: usize, byte: u8, top: usize) -> usize
+// The node that a byte leads to: back links are followed until a node has a child for it; the root without one stays.
+pub(crate) fn follow(table: &[Node], from: usize, byte: u8) -> usize
+    requires tree { (ss : List (List ℕ)) × Tree table.now ss × Backed table.now ss (length (string ss from)) }
+    requires within { from < length table.now }
+    ensures { (ss : List (List ℕ)) → Tree table.now ss → Backed table.now ss (length (string ss from)) → Leads ss from byte result }
+{
+    let top = from_root(table, byte);
+    follow_to_top(table, from, byte, top)
+}
+
+// The same, where the byte is known to lead to `top` from the root.
+pub(crate) fn follow_to_top(table: &[Node], from: usize, byte: u8, top: usize) -> usize
     requires tree { (ss : List (List ℕ)) × Tree table.now ss × Backed table.now ss (length (string ss from)) × Leads ss 0 byte top }
     requires within { from < length table.now }
     ensures { (ss : List (List ℕ)) → Tree table.now ss → Backed table.now ss (length (string ss from)) → Leads ss 0 byte top → Leads ss from byte result }

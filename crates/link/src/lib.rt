@@ -2,12 +2,12 @@
 #![tactic(auto)]
 
 mod admit;
+mod as_finder;
 mod back;
 mod building;
 mod compare;
 mod enter;
 mod expect;
-mod finder;
 mod follow;
 mod link;
 mod mount;

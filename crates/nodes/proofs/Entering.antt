@@ -1,7 +1,7 @@
 -- One word more: which of its prefixes are there already, and the numbers of those that are new.
 use Rattle.std.proofs.Common.{◌≡◌, ℕ, zero, suc, ◌+◌, ◌-◌, ◌<◌, ◌≤◌, List, [], ◌∷◌, ◌++◌, length, get_or, take, drop, sum_by, sym, refl, ap, ◌∙◌, subst, ⊎_elim, arith, drop-cons, take-suc}
 use lib.Seq.{append_snoc}
-use Rattle.std.specs.List.{ContainsAt as Has, flat_map, AllByRecursion as All}
+use Rattle.std.specs.List.{ContainsAt as Has, flat_map, AllByRecursion}
 use Rattle.std.proofs.lemmas.List.{append-nil, take_more, append_assoc, length_push, length-append, length-take, length-take-le, length-drop, get_or-take, get_or-drop, get_or-append-add, get_or_append_left, take-append-drop, drop_all}
 use Rattle.std.proofs.ByRecursion.{has_push, has_push_cases, All-from_get_or}
 use Rattle.std.proofs.lemmas.List.Sums.{sum_by-cons}
@@ -56,7 +56,7 @@ shared-only ss closed w d within has ends =
     ⊎_elim (λ is. is) (⊎_elim (λ below. absurd (shared-most ss w d below within has)) (λ above. absurd (ends (omega (arith, shared-small ss w)) (shared-fronts ss closed w (suc d) above)))) (cases_order (shared ss w) d)
 
 -- strings that are all there add nothing
-add_all-there : (ss ts : List (List ℕ)) → All (Has ss) ts → add_all ss ts ≡ ss
+add_all-there : (ss ts : List (List ℕ)) → AllByRecursion (Has ss) ts → add_all ss ts ≡ ss
 add_all-there ss [] each = refl
 add_all-there ss (t ∷ ts) (this, rest) = ap (λ us. add_all us ts) (cond-true _ _ _ ((decides_among ss t).1 this)) ∙ add_all-there ss ts rest
 
@@ -88,7 +88,7 @@ add-rest w (suc n) k ss at new =
     rw (prefixes-rest w k (omega arith)) (ap (λ us. add_all us rest) added ∙ more ∙ append_snoc ss t rest)
 
 -- the prefixes up to what is shared are there
-all-shared : (ss : List (List ℕ)) → Closed ss → (w : List ℕ) → All (Has ss) (take (shared ss w) (prefixes w))
+all-shared : (ss : List (List ℕ)) → Closed ss → (w : List ℕ) → AllByRecursion (Has ss) (take (shared ss w) (prefixes w))
 all-shared ss closed w = All-from_get_or (Has ss) (take k (prefixes w)) [] each
   where
     k : ℕ

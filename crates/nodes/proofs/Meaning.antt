@@ -2,7 +2,7 @@
 use Rattle.std.proofs.Common.{◌≡◌, ℕ, suc, ◌+◌, ◌*◌, ◌/◌, ◌%◌, ◌^◌, ◌<◌, ◌≤◌, max, Bool, true, false, cond, ◌||◌, ◌⊎◌, List, [], ◌∷◌, ◌++◌, map, length, take, Decides, sym, refl, ap, ◌∙◌, subst, inl, inr, ⊎_elim, one-mul, arith}
 use native.Mathlib.Nat.{pow-succ'}
 use lib.Bits.{bit_or, or_step, or_zero_r, or_shifted_r}
-use Rattle.std.specs.List.{ContainsAt as Has, AllByRecursion as All}
+use Rattle.std.specs.List.{ContainsAt as Has, AllByRecursion}
 use Rattle.std.proofs.lemmas.List.{length-map, get_or-map}
 use Rattle.std.proofs.ByRecursion.{All-weaker, all_has_itself}
 use Rattle.std.proofs.lemmas.Bool.{cases_lt, or_parts}
@@ -17,7 +17,7 @@ use Rattle.nodes.proofs.Strings.{among_none, has_root, has_front, has_word}
 use Rattle.nodes.proofs.Back.{longest-is, back_is}
 
 -- two functions that agree on each word give the same list
-map_same : {B : Type 0} (f g : List ℕ → B) (ws : List (List ℕ)) → All (λ w. f w ≡ g w) ws → map f ws ≡ map g ws
+map_same : {B : Type 0} (f g : List ℕ → B) (ws : List (List ℕ)) → AllByRecursion (λ w. f w ≡ g w) ws → map f ws ≡ map g ws
 map_same f g [] each = refl
 map_same f g (w ∷ ws) (this, rest) = let more = map_same f g ws rest in cc
 
@@ -145,7 +145,7 @@ ends-back ss root s some w has = same_from_decides _ _ (decides_ends_with s w) (
     back ends = ⊎_elim (λ short. inr ((back_is ss root s some).most w has ends short)) (λ long. inl (sym (ends-whole s w ends long))) (cases_lt (length w) (length s))
 
 -- outputs are joined along back links, for words that are nodes' strings
-pub suffix_mask-join : (ss : List (List ℕ)) → Has ss [] → (ws : List (List ℕ)) → All (Has ss) ws → (s : List ℕ) → 0 < length s → suffix_mask ws s ≡ bit_or (own_mask ws s) (suffix_mask ws (back_string ss s))
+pub suffix_mask-join : (ss : List (List ℕ)) → Has ss [] → (ws : List (List ℕ)) → AllByRecursion (Has ss) ws → (s : List ℕ) → 0 < length s → suffix_mask ws s ≡ bit_or (own_mask ws s) (suffix_mask ws (back_string ss s))
 suffix_mask-join ss root [] each s some = refl
 suffix_mask-join ss root (w ∷ ws) (this, rest) s some =
     let here = ends-back ss root s some w this in

@@ -1,6 +1,6 @@
 -- The strings of the nodes: which they are, in which order they stand, and at which numbers.
 use Rattle.std.proofs.Common.{◌≡◌, ℕ, zero, suc, ◌+◌, ◌<◌, ◌≤◌, Bool, true, false, cond, ◌⊎◌, List, [], ◌∷◌, ◌++◌, length, get_or, take, Decides, sym, refl, ap, ◌∙◌, subst, inl, inr, ⊎_elim, arith}
-use Rattle.std.specs.List.{ContainsAt as Has, flat_map, AllByRecursion as All}
+use Rattle.std.specs.List.{ContainsAt as Has, flat_map, AllByRecursion}
 use Rattle.std.proofs.lemmas.List.{length-map, length-take, nil_from_length, get_or-map, take_at, take_all, take-take, same_from_push, get_or_append_left, get_or_push, length_push}
 use Rattle.std.proofs.ByRecursion.{has_get_or, has_append_left, has_append_right, has_push, has_push_cases, all-has, all_has_itself, All-append, All-push, All-weaker, All-from_get_or}
 use Rattle.std.proofs.lemmas.Bool.{cases_Bool, cases_lt, or_parts, cond_both, cond-true, cond-false, false≢true}
@@ -129,18 +129,18 @@ has_add : (ss : List (List ℕ)) (s : List ℕ) → Has (add ss s) s
 has_add ss s = cond_both (among ss s) ss (ss ++ (s ∷ [])) (λ us. Has us s) (λ e. (decides_among ss s).0 e) (λ e. has_push ss s)
 
 -- and so are all that are added
-all-added : (ss ts : List (List ℕ)) → All (Has (add_all ss ts)) ts
+all-added : (ss ts : List (List ℕ)) → AllByRecursion (Has (add_all ss ts)) ts
 all-added ss [] = tt
 all-added ss (t ∷ ts) = (has_added (add ss t) ts t (has_add ss t), all-added (add ss t) ts)
 
 -- what holds of those there and of those that are added holds of all
-all-add_all : (P : List ℕ → Type 0) (ss ts : List (List ℕ)) → All P ss → All P ts → All P (add_all ss ts)
+all-add_all : (P : List ℕ → Type 0) (ss ts : List (List ℕ)) → AllByRecursion P ss → AllByRecursion P ts → AllByRecursion P (add_all ss ts)
 all-add_all P ss [] old new = old
 all-add_all P ss (t ∷ ts) old (this, rest) =
-    all-add_all P (add ss t) ts (cond_both (among ss t) ss (ss ++ (t ∷ [])) (All P) (λ e. old) (λ e. All-push P ss t old this)) rest
+    all-add_all P (add ss t) ts (cond_both (among ss t) ss (ss ++ (t ∷ [])) (AllByRecursion P) (λ e. old) (λ e. All-push P ss t old this)) rest
 
 -- what holds of each list that is joined holds of all
-all-joined : (P : List ℕ → Type 0) (f : List ℕ → List (List ℕ)) (ws : List (List ℕ)) → All (λ w. All P (f w)) ws → All P (flat_map f ws)
+all-joined : (P : List ℕ → Type 0) (f : List ℕ → List (List ℕ)) (ws : List (List ℕ)) → AllByRecursion (λ w. AllByRecursion P (f w)) ws → AllByRecursion P (flat_map f ws)
 all-joined P f [] each = tt
 all-joined P f (w ∷ ws) (this, rest) = All-append P (f w) (flat_map f ws) this (all-joined P f ws rest)
 
@@ -172,13 +172,13 @@ has_front ws w zero has within = has_root ws
 has_front ws w (suc d) has within = all-has (Has (strings ws)) _ _ (all-added ([] ∷ []) (flat_map prefixes ws)) (has_joined prefixes ws w _ has (has_prefix w (suc d) (omega arith) within))
 
 -- and no other string is one
-begins_string : (ws : List (List ℕ)) → All (λ s. (s ≡ []) ⊎ Begins ws s) (strings ws)
+begins_string : (ws : List (List ℕ)) → AllByRecursion (λ s. (s ≡ []) ⊎ Begins ws s) (strings ws)
 begins_string ws = all-add_all P ([] ∷ []) (flat_map prefixes ws) (inl refl, tt) (all-joined P prefixes ws (All-weaker (Has ws) _ each ws (all_has_itself ws)))
   where
     P : List ℕ → Type 0
     P s = (s ≡ []) ⊎ Begins ws s
 
-    each : (w : List ℕ) → Has ws w → All P (prefixes w)
+    each : (w : List ℕ) → Has ws w → AllByRecursion P (prefixes w)
     each w has = let long = length-prefixes w in All-from_get_or P (prefixes w) [] (λ i within. inr (w, suc i, has, omega arith, omega arith, prefix_at w i (omega arith)))
 
 -- so the strings are exactly the empty one and the first bytes of words

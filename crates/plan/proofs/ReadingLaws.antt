@@ -1,7 +1,7 @@
 -- What is still to come of a plan, one record after another.
 use Rattle.std.proofs.Common.{◌≡◌, ℕ, zero, suc, ◌+◌, ◌-◌, ◌<◌, ◌≤◌, List, [], ◌∷◌, ◌++◌, map, length, take, Some, None, Option, sym, refl, ap, ◌∙◌, subst, add-zero, zero-add, add-one, arith}
 use Rattle.std.proofs.lemmas.List.{append_assoc, append-nil, length-append, length-map, length-take, map-append}
-use Rattle.std.specs.List.{AllByRecursion as All}
+use Rattle.std.specs.List.{AllByRecursion}
 use Rattle.occurrence.specs.Occurrence.{Gap, Pattern}
 use Rattle.reach.specs.Reached.{more_words, nth_word, gap_behind}
 use Rattle.landmark.specs.Records.{Item, start, run}
@@ -132,7 +132,7 @@ so_far_operator p i front next is ms groups f e =
       spots = ap (λ l. take p.words p.spots ++ (l ++ map spot_of (seats p.landmarks g.landmarks))) (sym (before-operator (p.landmarks - 1) f.gap i g.steps))
           ∙ ap (λ x. take p.words p.spots ++ spots_to_come p.landmarks f.gap x) (sym groups) ∙ f.spots;
       roles = ap (λ (x : Groups). take p.landmarks p.roles ++ map role_of x.landmarks) (sym groups) ∙ f.roles;
-      good = subst (λ (x : Groups). All GoodLandmark x.landmarks) groups f.good;
+      good = subst (λ (x : Groups). AllByRecursion GoodLandmark x.landmarks) groups f.good;
     }
 
 -- nothing is to come at the end
@@ -160,7 +160,7 @@ pub landmark_size : (ss : List Step) → BeginsWithAWord ss → suc (more_words 
 landmark_size [] b = absurd b
 landmark_size (s ∷ ss) b = ap suc (step_count s ss)
 
-pub length-seats : (m : ℕ) (ms : List Landmark) → All GoodLandmark ms → length (seats m ms) ≡ length (all_words ms)
+pub length-seats : (m : ℕ) (ms : List Landmark) → AllByRecursion GoodLandmark ms → length (seats m ms) ≡ length (all_words ms)
 length-seats m [] good = refl
 length-seats m (x ∷ xs) (good, goods) =
     length-append (seats_from (suc (more_words (pattern_of x))) m (pattern_of x) 0) (seats (suc m) xs)
@@ -173,12 +173,12 @@ pub small : (ms : List Landmark) → WellFormed ms → Small ms
 small ms w = (w.few, subst (λ n. n ≤ 64) (sym (length-seats 0 ms w.each)) w.few_words)
 
 -- before the first record all is to come
-pub so_far_none : (p : Plan) (is : List Item) (ms : List Landmark) → PlanOf p [] → All GoodLandmark ms → grouped is ≡ record { steps = []; landmarks = ms } → SoFar p First is ms
+pub so_far_none : (p : Plan) (is : List Item) (ms : List Landmark) → PlanOf p [] → AllByRecursion GoodLandmark ms → grouped is ≡ record { steps = []; landmarks = ms } → SoFar p First is ms
 so_far_none p is ms none good together = record {
   gap = None;
   front-is = refl;
   spots = ap (λ n. take n p.spots ++ spots_to_come p.landmarks None (grouped is)) none.words
       ∙ ap (λ n. spots_to_come n None (grouped is)) none.landmarks ∙ ap (spots_to_come 0 None) together;
   roles = ap (λ n. take n p.roles ++ map role_of (grouped is).landmarks) none.landmarks ∙ ap (λ (g : Groups). map role_of g.landmarks) together;
-  good = subst (λ (g : Groups). All GoodLandmark g.landmarks) (sym together) good;
+  good = subst (λ (g : Groups). AllByRecursion GoodLandmark g.landmarks) (sym together) good;
 }

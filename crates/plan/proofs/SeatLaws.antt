@@ -2,7 +2,7 @@
 use Rattle.std.proofs.Common.{◌≡◌, ℕ, zero, suc, ◌+◌, ◌-◌, ◌<◌, ◌≤◌, ◌⊎◌, List, [], ◌∷◌, ◌++◌, map, length, Some, sym, refl, ap, ◌∙◌, subst, inl, inr, ⊎_elim, zero-add, arith}
 use Rattle.std.proofs.lemmas.List.{length-map}
 use Rattle.std.proofs.lemmas.Bool.{cases_lt}
-use Rattle.std.specs.List.{AllByRecursion as All, slice_get}
+use Rattle.std.specs.List.{AllByRecursion, slice_get}
 use Rattle.occurrence.specs.Occurrence.{Pattern}
 use Rattle.reach.specs.Reached.{more_words, nth_word}
 use Rattle.landmark.specs.Grammar.{Step, Landmark, GoodLandmark, all_words, chain, pattern_of, words_of_landmark}
@@ -122,7 +122,7 @@ chain-word (s ∷ t ∷ ss) zero h = refl
 chain-word (s ∷ t ∷ ss) (suc j) h = chain-word (t ∷ ss) j (omega arith)
 
 -- the word of a seat is the list's word of that number
-pub seat_word : (m : ℕ) (ms : List Landmark) (k : ℕ) (s : Seat) → All GoodLandmark ms → slice_get (seats m ms) k ≡ Some s → slice_get (all_words ms) k ≡ Some (nth_word s.pattern s.index)
+pub seat_word : (m : ℕ) (ms : List Landmark) (k : ℕ) (s : Seat) → AllByRecursion GoodLandmark ms → slice_get (seats m ms) k ≡ Some s → slice_get (all_words ms) k ≡ Some (nth_word s.pattern s.index)
 seat_word m [] k s good e = let z : ◌≡◌ {A = ℕ} 0 1 = cc in absurd (omega arith)
 seat_word m (x ∷ xs) k s (good, goods) e =
     let n = suc (more_words (pattern_of x)) in

@@ -1,6 +1,6 @@
 -- Making a plan: what is still to come of it.
 use Rattle.std.specs.Prelude.{◌≡◌, ℕ, ◌+◌, ◌-◌, ◌<◌, ◌≤◌, List, [], ◌∷◌, ◌++◌, map, length, take, Some, None, Ok, Err, Option, Result, ◌≢◌}
-use Rattle.std.specs.List.{AllByRecursion as All}
+use Rattle.std.specs.List.{AllByRecursion}
 use Rattle.occurrence.specs.Occurrence.{Gap}
 use Rattle.landmark.specs.Records.{Item}
 use Rattle.landmark.specs.Lists.{list_verdict, plus}
@@ -60,7 +60,7 @@ pub record SoFar (p : Plan) (front : Front) (is : List Item) (ms : List Landmark
   pub front-is : front ≡ front_so_far gap
   pub spots : take p.words p.spots ++ spots_to_come p.landmarks gap (grouped is) ≡ map spot_of (seats 0 ms)
   pub roles : take p.landmarks p.roles ++ map role_of (grouped is).landmarks ≡ map role_of ms
-  pub good : All GoodLandmark (grouped is).landmarks
+  pub good : AllByRecursion GoodLandmark (grouped is).landmarks
 
 -- no more landmarks and words than a plan has room for
 abbrev pub Small : List Landmark → Type 0

@@ -2,9 +2,9 @@
 #![tactic(auto)]
 
 mod admit;
+mod as_finder;
 mod compare;
 mod edges;
-mod finder;
 mod mount;
 mod number;
 mod shift;

@@ -2,7 +2,7 @@
 use Rattle.std.proofs.Common.{◌≡◌, ℕ, ◌+◌, List, [], length, get_or, replicate, Some, None, Option, sym, ap, ◌∙◌, subst, ⊎_elim, zero-add, arith}
 use Rattle.std.proofs.lemmas.List.{get_or_past, get_or-replicate, length-replicate}
 use Rattle.std.proofs.lemmas.Bool.{cases_lt}
-use Rattle.std.specs.List.{AllByRecursion as All, slice_get}
+use Rattle.std.specs.List.{AllByRecursion, slice_get}
 use Rattle.occurrence.specs.Occurrence.{IsEnd, Occurs, Pattern}
 use Rattle.reach.specs.Reached.{more_words}
 use Rattle.reach.proofs.Reaching.{up_to-last}
@@ -33,7 +33,7 @@ kept_none open_gap P t k m found none = subst (IsFirst P) (sym (all_none 64 k t.
 kept_none bounded P t k m found none = holds-none P t.windows.numbers k (empty_none t k found)
 
 -- in no bytes no word of good landmarks is reached, so tracks in which nothing is found are those of no bytes
-pub nothing_found : (ms : List Landmark) (t : Tracks) → All GoodLandmark ms → NothingFound t → TracksOf ms [] t
+pub nothing_found : (ms : List Landmark) (t : Tracks) → AllByRecursion GoodLandmark ms → NothingFound t → TracksOf ms [] t
 nothing_found ms t good found = record {
   kept = λ k s there. kept_none (rear s) (ReachedAt s []) t k s.landmark found
       (λ d reached. omega (arith, (seat_limited ms k s good there s.index).0, reached_ends s.pattern s.index [] d (stands 0 ms k s there).within reached));

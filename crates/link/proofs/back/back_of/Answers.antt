@@ -15,7 +15,7 @@ pub follow-requires : goal.follow-requires
 follow-requires c =
     let (ws, ready) = c.requires in
     record {
-      tree = (strings ws, ready.tree, from-backed ws c.args.at c.args.table.now ready (omega arith), c.from_root-top.ensures (strings ws) ready.tree);
+      tree = (strings ws, ready.tree, from-backed ws c.args.at c.args.table.now ready (omega arith));
       within = from-within ws c.args.at c.args.table.now ready;
     }
 
@@ -25,6 +25,6 @@ returns c =
     let at = c.args.at in
     let (ws, ready) = c.requires in
     record {
-      within = omega (arith, ready.tree.size, (c.follow.ensures (strings ws) ready.tree (from-backed ws at t ready (omega arith)) (c.from_root-top.ensures (strings ws) ready.tree)).0);
-      is = λ ws ready. back_followed ws at t ready c.args.byte c.follow.result (omega arith) (c.follow.ensures (strings ws) ready.tree (from-backed ws at t ready (omega arith)) (c.from_root-top.ensures (strings ws) ready.tree));
+      within = omega (arith, ready.tree.size, from-within ws at t ready, (c.follow.ensures (strings ws) ready.tree (from-backed ws at t ready (omega arith))).0);
+      is = λ ws ready. back_followed ws at t ready c.args.byte c.follow.result (omega arith) (c.follow.ensures (strings ws) ready.tree (from-backed ws at t ready (omega arith)));
     }

@@ -3,7 +3,7 @@ use Rattle.finder.specs.Words.{half_read}
 use Rattle.finder.proofs.HalfRead.{half_read-nothing}
 use Rattle.nodes.proofs.Strings.{rooted_strings}
 use Rattle.link.specs.Meaning.{words_in}
-use Rattle.link.proofs.finder.LinkFinderFinder.rest.Goals as goal
+use Rattle.link.proofs.as_finder.LinkFinderFinder.rest.Goals as goal
 
 pub returns : goal.returns
 returns c =

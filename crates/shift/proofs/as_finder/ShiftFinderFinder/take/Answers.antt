@@ -2,7 +2,7 @@ use Rattle.std.proofs.Common.{refl}
 use Rattle.words.specs.Index.{indexed}
 use Rattle.words.specs.Sizes.{indexed-sized}
 use Rattle.shift.proofs.Stepping.{halves_taken}
-use Rattle.shift.proofs.finder.ShiftFinderFinder.take.Goals as goal
+use Rattle.shift.proofs.as_finder.ShiftFinderFinder.take.Goals as goal
 
 pub returns : goal.returns
 returns c =

@@ -2,7 +2,7 @@ use Rattle.std.proofs.Common.{ℕ, ◌<◌, List, length}
 use Rattle.nodes.specs.Nodes.{string}
 use Rattle.link.specs.Table.{Tree, Backed, node_at}
 use Rattle.link.proofs.Following.{OnTheWay}
-use Rattle.link.proofs.follow.follow.Given as goal
+use Rattle.link.proofs.follow.follow_to_top.Given as goal
 
 -- the byte leads from here to where it leads from the start
 abbrev pub invariant-loop-at : goal.invariant-loop-at

@@ -7,7 +7,7 @@ use Rattle.link.specs.Table.{Tree, Backed, node_at}
 use Rattle.link.specs.declared.link.LinkFinder.{LinkFinder}
 use Rattle.link.specs.declared.node.Node.{Node}
 use Rattle.link.proofs.TableLaws.{right_tree, table_backed, table_mask}
-use Rattle.link.proofs.finder.LinkFinderFinder.take.Goals as goal
+use Rattle.link.proofs.as_finder.LinkFinderFinder.take.Goals as goal
 
 -- the finder's table is that of its words
 tree : (f : LinkFinder) → Tree f.table.now (strings (words_in f))
@@ -16,23 +16,23 @@ tree f = right_tree (words_in f) f.table.now f.right
 backed : (f : LinkFinder) (most : ℕ) → Backed f.table.now (strings (words_in f)) most
 backed f most = subst (λ (t : List Node). Backed t (strings (words_in f)) most) (sym f.right) (table_backed (words_in f) most)
 
-pub follow-self-requires : goal.follow-self-requires
-follow-self-requires c =
+pub follow_to_top-self-requires : goal.follow_to_top-self-requires
+follow_to_top-self-requires c =
     let f = c.args.self.now in
     record { tree = (strings (words_in f), tree f, backed f (length (string_at f)), f.rooted c.args.b); within = f.within }
 
 pub invariant_of-self : goal.invariant_of-self
 invariant_of-self c =
     let f = c.args.self.now in
-    let leads = c.follow-self.ensures (strings (words_in f)) (tree f) (backed f (length (string_at f))) (f.rooted c.args.b) in
-    record { right = f.right; rooted = f.rooted; within = subst (λ n. c.follow-self.result < n) (sym (tree f).size) leads.0 }
+    let leads = c.follow_to_top-self.ensures (strings (words_in f)) (tree f) (backed f (length (string_at f))) (f.rooted c.args.b) in
+    record { right = f.right; rooted = f.rooted; within = subst (λ n. c.follow_to_top-self.result < n) (sym (tree f).size) leads.0 }
 
 pub returns : goal.returns
 returns c =
     let f = c.args.self.now in
     let ws = words_in f in
-    let r = c.follow-self.result in
-    let leads = c.follow-self.ensures (strings ws) (tree f) (backed f (length (string_at f))) (f.rooted c.args.b) in
+    let r = c.follow_to_top-self.result in
+    let leads = c.follow_to_top-self.ensures (strings ws) (tree f) (backed f (length (string_at f))) (f.rooted c.args.b) in
     record {
       kept = refl;
       half = ap (half_read ws) leads.1 ∙ half_read-step ws (string_at f) c.args.b;
