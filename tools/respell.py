@@ -46,7 +46,7 @@ def definitions():
 
 
 def camel(name):
-    return "".join(p[:1].upper() + p[1:] for p in name.split("-"))
+    return "".join(p[:1].upper() + p[1:] for p in re.split("[-_]", name))
 
 
 def snake(name, functions):
@@ -64,7 +64,10 @@ def spelled():
     names, functions, goals = definitions()
     table = {}
     for name in sorted(names):
-        if "-" in name and name not in goals and name not in SPECIAL.values() and re.fullmatch(r"[A-Za-z][\w']*(?:-[\w']+)+", name):
+        is_type = name[0].isupper() and "_" in name
+        if name in goals or name in SPECIAL.values():
+            continue
+        if is_type or "-" in name and re.fullmatch(r"[A-Za-z][\w']*(?:-[\w']+)+", name):
             new = SPECIAL.get(name) or (camel(name) if name[0].isupper() else snake(name, functions))
             if new != name:
                 table[name] = new

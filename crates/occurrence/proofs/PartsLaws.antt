@@ -1,7 +1,7 @@
 -- That the two definitions of an occurrence agree.
 use Rattle.std.proofs.Common.{◌≡◌, ℕ, ◌+◌, ◌-◌, List, [], ◌++◌, length, take, drop, Some, None, Option, sym, refl, ap, ◌∙◌, subst, arith}
 use Rattle.std.proofs.lemmas.List.{append_assoc, append-nil, length-append, length-drop, length-take-le, take-append-drop, take_at, drop_at, drop-drop, drop-append-le}
-use Rattle.occurrence.specs.Occurrence.{Gap, Pattern, last, then, Ends, AtMost, Keeps, Goes_on, Occurs}
+use Rattle.occurrence.specs.Occurrence.{Gap, Pattern, last, then, Ends, AtMost, Keeps, GoesOn, Occurs}
 use Rattle.occurrence.specs.Parts.{NoMoreThan, Allows, Spells, InParts}
 use Rattle.occurrence.specs.Laws.{OccursInParts}
 
@@ -42,7 +42,7 @@ behind_from_word g p rest w more back image q e ends-here kept behind stop spelt
     ((take (q - length w) image, w ++ more, back, around, omega (arith, length-append w more), spelt), subst (Keeps g p) (sym size) kept)
 
 -- ends that can be picked put the image together
-behind_from_goes : (g : Gap) (p : ℕ) (rest : Pattern) (image : List ℕ) (e : ℕ) → Goes_on g p rest image e → Behind g p rest image e
+behind_from_goes : (g : Gap) (p : ℕ) (rest : Pattern) (image : List ℕ) (e : ℕ) → GoesOn g p rest image e → Behind g p rest image e
 behind_from_goes g p (last w) image e (ends-here, kept) = behind_from_word g p (last w) w [] (drop e image) image e e ends-here kept refl (omega arith) (append-nil w)
 behind_from_goes g p (then w h rest) image e (q, ends-here, kept, goes) =
     let (parts, gap-kept) = behind_from_goes h q rest image e goes in
@@ -53,7 +53,7 @@ behind_from_goes g p (then w h rest) image e (q, ends-here, kept, goes) =
     behind_from_word g p (then w h rest) w (drop q front ++ bytes) back image q e ends-here kept behind (omega (arith, length-append (drop q front) bytes)) (drop q front, bytes, refl, allowed, spelt)
 
 -- an image that is put together has ends that can be picked
-goes_from_behind : (g : Gap) (p : ℕ) (rest : Pattern) (image : List ℕ) (e : ℕ) → Behind g p rest image e → Goes_on g p rest image e
+goes_from_behind : (g : Gap) (p : ℕ) (rest : Pattern) (image : List ℕ) (e : ℕ) → Behind g p rest image e → GoesOn g p rest image e
 goes_from_behind g p (last w) image e ((front, bytes, back, whole, stop, spelt), kept) =
     let size = ap length spelt in
     (ends-from_parts w image front back e (cc) (omega arith), subst (Keeps g p) (omega arith) kept)
@@ -73,12 +73,12 @@ abbrev any_bytes : Gap
 any_bytes = record { least = 0; greatest = None }
 
 -- an occurrence goes on behind any bytes
-goes_from_occurs : (p : Pattern) (image : List ℕ) (e : ℕ) → Occurs p image e → Goes_on any_bytes 0 p image e
+goes_from_occurs : (p : Pattern) (image : List ℕ) (e : ℕ) → Occurs p image e → GoesOn any_bytes 0 p image e
 goes_from_occurs (last w) image e ends-here = (ends-here, (omega arith, tt))
 goes_from_occurs (then w g rest) image e (q, ends-here, goes) = (q, ends-here, (omega arith, tt), goes)
 
 -- what goes on is an occurrence
-occurs-from_goes : (p : Pattern) (image : List ℕ) (e : ℕ) → Goes_on any_bytes 0 p image e → Occurs p image e
+occurs-from_goes : (p : Pattern) (image : List ℕ) (e : ℕ) → GoesOn any_bytes 0 p image e → Occurs p image e
 occurs-from_goes (last w) image e (ends-here, kept) = ends-here
 occurs-from_goes (then w g rest) image e (q, ends-here, kept, goes) = (q, ends-here, goes)
 

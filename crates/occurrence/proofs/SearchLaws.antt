@@ -2,7 +2,7 @@
 use Rattle.std.proofs.Common.{◌≡◌, ℕ, zero, suc, ◌+◌, ◌<◌, ◌≤◌, Bool, false, ◌&&◌, leb, ◌⊎◌, List, [], ◌∷◌, length, Some, None, Decides, Option, refl, subst, inl, inr, ⊎_elim, arith}
 use Rattle.std.proofs.lemmas.Bool.{leb-true, le-leb, cases_eq, cond_both}
 use Rattle.std.proofs.lemmas.Bool.Decides.{Decides-and, Decides-or, Decides-like, Decides-eqb, not_from_Decides}
-use Rattle.occurrence.specs.Occurrence.{Gap, Pattern, last, then, Ends, AtMost, Keeps, Goes_on, Occurs, IsEnd}
+use Rattle.occurrence.specs.Occurrence.{Gap, Pattern, last, then, Ends, AtMost, Keeps, GoesOn, Occurs, IsEnd}
 use Rattle.occurrence.specs.Search.{same, ends, at_most, keeps, some_upto, goes_on, occurs, first_from}
 use Rattle.occurrence.specs.Laws.{SearchFindsTheEnd}
 
@@ -55,7 +55,7 @@ module _ (P : ℕ → Type 0) (f : ℕ → Bool) (each : (k : ℕ) → Decides (
   decides_some n within = Decides-like _ (λ (k, l, h). (k, h)) (λ (k, h). (k, within k h, h)) (decides_upto n)
 
 -- `goes_on` decides whether ends can be picked for the rest of a landmark
-pub decides_goes_on : (g : Gap) (p : ℕ) (rest : Pattern) (image : List ℕ) (e : ℕ) → Decides (goes_on g p rest image e) (Goes_on g p rest image e)
+pub decides_goes_on : (g : Gap) (p : ℕ) (rest : Pattern) (image : List ℕ) (e : ℕ) → Decides (goes_on g p rest image e) (GoesOn g p rest image e)
 decides_goes_on g p (last w) image e = Decides-and _ _ (decides_ends w image e) (decides_keeps g p _)
 decides_goes_on g p (then w h rest) image e =
     Decides-like _ (λ (q, s). (q, s.0, s.1, s.2)) (λ (q, a, b, c). (q, (a, b, c)))
@@ -69,7 +69,7 @@ decides_occurs (then w g rest) image e =
     (decides_some _ _ (λ q. Decides-and _ _ (decides_ends w image q) (decides_goes_on g q rest image e)) _ (λ q s. s.0.1))
 
 -- the rest of a landmark ends within the image
-pub goes_on-within : (g : Gap) (p : ℕ) (rest : Pattern) (image : List ℕ) (e : ℕ) → Goes_on g p rest image e → e ≤ length image
+pub goes_on-within : (g : Gap) (p : ℕ) (rest : Pattern) (image : List ℕ) (e : ℕ) → GoesOn g p rest image e → e ≤ length image
 goes_on-within g p (last w) image e (ends-here, kept) = ends-here.1
 goes_on-within g p (then w h rest) image e (q, ends-here, kept, goes) = goes_on-within h q rest image e goes
 

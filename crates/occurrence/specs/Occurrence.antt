@@ -25,14 +25,14 @@ abbrev pub Keeps : Gap → ℕ → ℕ → Type 0
 Keeps g p start = (p + g.least ≤ start) × AtMost g.greatest p start
 
 -- ends can be picked for the rest of a landmark, its first word behind the gap g after p, its last ending at e
-abbrev pub Goes_on : Gap → ℕ → Pattern → List ℕ → ℕ → Type 0
-Goes_on g p (last w) image e = Ends w image e × Keeps g p (e - length w)
-Goes_on g p (then w h rest) image e = (q : ℕ) × Ends w image q × Keeps g p (q - length w) × Goes_on h q rest image e
+abbrev pub GoesOn : Gap → ℕ → Pattern → List ℕ → ℕ → Type 0
+GoesOn g p (last w) image e = Ends w image e × Keeps g p (e - length w)
+GoesOn g p (then w h rest) image e = (q : ℕ) × Ends w image q × Keeps g p (q - length w) × GoesOn h q rest image e
 
 -- an occurrence whose last word ends at e
 abbrev pub Occurs : Pattern → List ℕ → ℕ → Type 0
 Occurs (last w) image e = Ends w image e
-Occurs (then w g rest) image e = (p : ℕ) × Ends w image p × Goes_on g p rest image e
+Occurs (then w g rest) image e = (p : ℕ) × Ends w image p × GoesOn g p rest image e
 
 -- e is the smallest end of an occurrence
 pub record Smallest (p : Pattern) (image : List ℕ) (e : ℕ) : Type 0 where

@@ -1,16 +1,16 @@
 -- A word is reached from the word before it.
 use Rattle.std.proofs.Common.{◌≡◌, ℕ, zero, suc, ◌-◌, ◌<◌, ◌≤◌, List, ◌++◌, length, take, drop, sym, refl, ap, ◌∙◌, subst, arith}
 use Rattle.std.proofs.lemmas.List.{length-append, length-drop, take-append-le, drop-append-le}
-use Rattle.occurrence.specs.Occurrence.{Gap, Pattern, last, then, Ends, Keeps, Goes_on, Occurs}
+use Rattle.occurrence.specs.Occurrence.{Gap, Pattern, last, then, Ends, Keeps, GoesOn, Occurs}
 use Rattle.reach.specs.Laws.{ReachingLaw}
 use Rattle.reach.specs.Reached.{more_words, nth_word, gap_behind, up_to, Reached, ReachedFrom}
 
 -- the same behind a gap g after an end p
 abbrev GoesFrom : Gap → ℕ → Pattern → ℕ → List ℕ → ℕ → Type 0
 GoesFrom g p rest j image e =
-    (q : ℕ) × Ends (nth_word rest (suc j)) image e × Goes_on g p (up_to j rest) image q × Keeps (gap_behind rest j) q (e - length (nth_word rest (suc j)))
+    (q : ℕ) × Ends (nth_word rest (suc j)) image e × GoesOn g p (up_to j rest) image q × Keeps (gap_behind rest j) q (e - length (nth_word rest (suc j)))
 
-goes_from : (g : Gap) (p : ℕ) (rest : Pattern) (j : ℕ) (image : List ℕ) (e : ℕ) → j < more_words rest → Goes_on g p (up_to (suc j) rest) image e → GoesFrom g p rest j image e
+goes_from : (g : Gap) (p : ℕ) (rest : Pattern) (j : ℕ) (image : List ℕ) (e : ℕ) → j < more_words rest → GoesOn g p (up_to (suc j) rest) image e → GoesFrom g p rest j image e
 goes_from g p (last w) j image e h o = absurd (omega arith)
 goes_from g p (then w k (last v)) zero image e h (q, ends, keeps, goes) = (q, goes.0, (ends, keeps), goes.1)
 goes_from g p (then w k (last v)) (suc j) image e h o = absurd (omega arith)
@@ -19,7 +19,7 @@ goes_from g p (then w k (then v l rest)) (suc j) image e h (q, ends, keeps, goes
     let (r, there, reached, kept) = goes_from k q (then v l rest) j image e (omega arith) goes in
     (r, there, (q, ends, keeps, reached), kept)
 
-goes_to : (g : Gap) (p : ℕ) (rest : Pattern) (j : ℕ) (image : List ℕ) (e : ℕ) → j < more_words rest → GoesFrom g p rest j image e → Goes_on g p (up_to (suc j) rest) image e
+goes_to : (g : Gap) (p : ℕ) (rest : Pattern) (j : ℕ) (image : List ℕ) (e : ℕ) → j < more_words rest → GoesFrom g p rest j image e → GoesOn g p (up_to (suc j) rest) image e
 goes_to g p (last w) j image e h o = absurd (omega arith)
 goes_to g p (then w k (last v)) zero image e h (q, there, (ends, keeps), kept) = (q, ends, keeps, (there, kept))
 goes_to g p (then w k (last v)) (suc j) image e h o = absurd (omega arith)
@@ -69,7 +69,7 @@ ends-shorter w image more e h (fits, within, is) =
     let there : take (length w) (drop (e - length w) image ++ more) ≡ take (length w) (drop (e - length w) image) = take-append-le (length w) (drop (e - length w) image) more (omega (arith, length-drop (e - length w) image)) in
     (fits, h, sym there ∙ sym (ap (take (length w)) from) ∙ is)
 
-goes_longer : (g : Gap) (p : ℕ) (rest : Pattern) (image more : List ℕ) (e : ℕ) → Goes_on g p rest image e → Goes_on g p rest (image ++ more) e
+goes_longer : (g : Gap) (p : ℕ) (rest : Pattern) (image more : List ℕ) (e : ℕ) → GoesOn g p rest image e → GoesOn g p rest (image ++ more) e
 goes_longer g p (last w) image more e (ends, keeps) = (ends-longer w image more e ends, keeps)
 goes_longer g p (then w k rest) image more e (q, ends, keeps, goes) = (q, ends-longer w image more q ends, keeps, goes_longer k q rest image more e goes)
 
@@ -79,11 +79,11 @@ occurs-longer (last w) image more e ends = ends-longer w image more e ends
 occurs-longer (then w g rest) image more e (q, ends, goes) = (q, ends-longer w image more q ends, goes_longer g q rest image more e goes)
 
 -- a landmark goes on no further back than the end before it
-goes_after : (g : Gap) (p : ℕ) (rest : Pattern) (image : List ℕ) (e : ℕ) → Goes_on g p rest image e → p ≤ e
+goes_after : (g : Gap) (p : ℕ) (rest : Pattern) (image : List ℕ) (e : ℕ) → GoesOn g p rest image e → p ≤ e
 goes_after g p (last w) image e (ends, keeps) = omega arith
 goes_after g p (then w k rest) image e (q, ends, keeps, goes) = let later = goes_after k q rest image e goes in omega arith
 
-goes_shorter : (g : Gap) (p : ℕ) (rest : Pattern) (image more : List ℕ) (e : ℕ) → e ≤ length image → Goes_on g p rest (image ++ more) e → Goes_on g p rest image e
+goes_shorter : (g : Gap) (p : ℕ) (rest : Pattern) (image more : List ℕ) (e : ℕ) → e ≤ length image → GoesOn g p rest (image ++ more) e → GoesOn g p rest image e
 goes_shorter g p (last w) image more e h (ends, keeps) = (ends-shorter w image more e h ends, keeps)
 goes_shorter g p (then w k rest) image more e h (q, ends, keeps, goes) =
     let later = goes_after k q rest (image ++ more) e goes in

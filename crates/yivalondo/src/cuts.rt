@@ -1,8 +1,7 @@
 // How an image is cut into blocks, as a radio link would.
-
-// The size of a block where no sizes are asked for.
 use anyhow::anyhow;
 
+// The size of a block where no sizes are asked for.
 const USUAL_SIZE: usize = 64;
 
 // The greatest random size.

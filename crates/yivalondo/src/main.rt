@@ -12,6 +12,7 @@ mod table;
 use anyhow::anyhow;
 use listing::{Listing, Verdict};
 use std::env;
+use std::process::ExitCode;
 
 const SCAN: &str = "yivalondo scan [--blocks N,N,..|--seed N] [--entry K] LIST IMAGE";
 
@@ -118,10 +119,14 @@ fn run(rt: &HostRuntime) -> anyhow::Result<()> {
     }
 }
 
-fn main(rt: HostRuntime) -> anyhow::Result<()> {
-    let done = run(&rt);
-    if let Err(why) = &done {
-        eprintln!(rt; "yivalondo: {why}")?;
+// Ends with status 1 where a command failed, and says why in one line.
+fn main(rt: HostRuntime) -> ExitCode {
+    match run(&rt) {
+        Ok(()) => ExitCode::SUCCESS,
+        Err(why) => {
+            // where standard error cannot be written, the status alone tells
+            let _ = eprintln!(rt; "yivalondo: {why}");
+            ExitCode::FAILURE
+        }
     }
-    done
 }

@@ -1,8 +1,7 @@
 // The options of a scan.
-
-// The texts that options were given.
 use anyhow::anyhow;
 
+// The texts that options were given.
 #[derive(Clone, Copy)]
 pub struct Options<'a> {
     pub blocks: Option<&'a str>,
