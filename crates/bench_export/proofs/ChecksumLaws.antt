@@ -9,7 +9,7 @@ checksum-suc ws image n =
     ap (checksum ws image) on ∙ ap (λ k. joined (checksum ws image n) k (mask ws (half_read ws (take k image)))) (sym on)
 
 -- joining what is answered at one more byte to the checksum of the bytes before it
-pub checksum-more : (ws : List (List ℕ)) (image : List ℕ) (n end sum r more : ℕ) → end ≡ n → sum ≡ checksum ws image n → r ≡ mask ws (half_read ws (take (n + 1) image))
-    → more ≡ joined sum (end + 1) r → more ≡ checksum ws image (n + 1)
-checksum-more ws image n end sum r more e s t m =
-    m ∙ ap (λ x. joined x (end + 1) r) s ∙ ap (λ k. joined (checksum ws image n) (k + 1) r) e ∙ ap (joined (checksum ws image n) (n + 1)) t ∙ sym (checksum-suc ws image n)
+pub checksum-more : (ws : List (List ℕ)) (image : List ℕ) (n sum r more : ℕ) → sum ≡ checksum ws image n → r ≡ mask ws (half_read ws (take (n + 1) image))
+    → more ≡ joined sum (n + 1) r → more ≡ checksum ws image (n + 1)
+checksum-more ws image n sum r more s t m =
+    m ∙ ap (λ x. joined x (n + 1) r) s ∙ ap (joined (checksum ws image n) (n + 1)) t ∙ sym (checksum-suc ws image n)

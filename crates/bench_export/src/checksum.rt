@@ -25,10 +25,8 @@ pub(crate) fn checksum<F: Finder>(finder: &mut F, image: &[u8]) -> u64
 {
     finder.rest();
     let mut sum = 0;
-    let mut end = 0;
-    for byte in image {
-        end += 1;
-        sum = join(sum, end, finder.take(*byte));
+    for (i, byte) in image.iter().enumerate() {
+        sum = join(sum, i as u64 + 1, finder.take(*byte));
     }
     sum
 }

@@ -1,4 +1,4 @@
-// The link finder.
+// The link finder. C has a name for each kind of finder, so the shift finder has the like.
 ghost use Rattle.bench_export.specs.Links.{Built, Mounted, Ran, Scanned};
 
 use crate::checksum::checksum;
@@ -10,10 +10,7 @@ use link::{LinkFinder, Node};
 pub extern "C" fn yivalondo_link_build(list: &[u8], table: &mut [Node]) -> usize
     ensures { Built list.now table.old table.new result }
 {
-    match link::build(list, table) {
-        Ok(used) => used,
-        Err(_) => 0,
-    }
+    link::build(list, table).unwrap_or(0)
 }
 
 // Whether mounting a link finder is accepted.
@@ -22,10 +19,7 @@ pub extern "C" fn yivalondo_link_mount<'a>(list: &'a [u8], table: &'a [Node]) ->
     ensures { Mounted list.now table.now result }
 {
     let mut finder = LinkFinder::new();
-    match finder.mount(list, table) {
-        Ok(()) => true,
-        Err(_) => false,
-    }
+    finder.mount(list, table).is_ok()
 }
 
 // Mounts a link finder and answers the checksum of an image, 0 where mounting is refused.
@@ -33,11 +27,10 @@ pub extern "C" fn yivalondo_link_mount<'a>(list: &'a [u8], table: &'a [Node]) ->
 pub extern "C" fn yivalondo_link_run<'a>(list: &'a [u8], table: &'a [Node], image: &[u8]) -> u64
     ensures { Ran list.now table.now image.now result }
 {
-    let mut finder = LinkFinder::new();
-    match finder.mount(list, table) {
-        Ok(()) => checksum(&mut finder, image),
-        Err(_) => 0,
-    }
+    let Ok(mut finder) = LinkFinder::mounted(list, table) else {
+        return 0;
+    };
+    checksum(&mut finder, image)
 }
 
 // Mounts a link finder, scans an image in blocks of so many bytes, at least one, and answers the checksum of all ends,
@@ -51,9 +44,8 @@ pub extern "C" fn yivalondo_link_scan<'a>(
 ) -> u64
     ensures { Scanned list.now table.now image.now result }
 {
-    let mut finder = LinkFinder::new();
-    match finder.mount(list, table) {
-        Ok(()) => scan_ends(finder, list, image, block),
-        Err(_) => 0,
-    }
+    let Ok(finder) = LinkFinder::mounted(list, table) else {
+        return 0;
+    };
+    scan_ends(finder, list, image, block)
 }

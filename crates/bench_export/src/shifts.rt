@@ -1,4 +1,4 @@
-// The shift finder.
+// The shift finder. C has a name for each kind of finder, so the link finder has the like.
 ghost use Rattle.bench_export.specs.Shifts.{Built, Mounted, Ran};
 
 use crate::checksum::checksum;
@@ -9,10 +9,7 @@ use shift::ShiftFinder;
 pub extern "C" fn yivalondo_shift_build(list: &[u8], table: &mut [u64]) -> usize
     ensures { Built list.now table.old table.new result }
 {
-    match shift::build(list, table) {
-        Ok(used) => used,
-        Err(_) => 0,
-    }
+    shift::build(list, table).unwrap_or(0)
 }
 
 // Whether mounting a shift finder is accepted.
@@ -21,10 +18,7 @@ pub extern "C" fn yivalondo_shift_mount<'a>(list: &'a [u8], table: &'a [u64]) ->
     ensures { Mounted list.now table.now result }
 {
     let mut finder = ShiftFinder::new();
-    match finder.mount(list, table) {
-        Ok(()) => true,
-        Err(_) => false,
-    }
+    finder.mount(list, table).is_ok()
 }
 
 // Mounts a shift finder and answers the checksum of an image, 0 where mounting is refused.
@@ -32,9 +26,8 @@ pub extern "C" fn yivalondo_shift_mount<'a>(list: &'a [u8], table: &'a [u64]) ->
 pub extern "C" fn yivalondo_shift_run<'a>(list: &'a [u8], table: &'a [u64], image: &[u8]) -> u64
     ensures { Ran list.now table.now image.now result }
 {
-    let mut finder = ShiftFinder::new();
-    match finder.mount(list, table) {
-        Ok(()) => checksum(&mut finder, image),
-        Err(_) => 0,
-    }
+    let Ok(mut finder) = ShiftFinder::mounted(list, table) else {
+        return 0;
+    };
+    checksum(&mut finder, image)
 }

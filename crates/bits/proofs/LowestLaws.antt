@@ -1,12 +1,13 @@
 -- The lowest set bit of a number, and the number without it.
-use Rattle.std.proofs.Common.{◌≡◌, ℕ, zero, suc, ◌+◌, ◌-◌, ◌*◌, ◌/◌, ◌%◌, ◌^◌, ◌<◌, sym, refl, ap, ◌∙◌, subst, ⊎_elim, arith}
+use Rattle.std.proofs.Common.{◌≡◌, ℕ, zero, suc, ◌+◌, ◌-◌, ◌*◌, ◌/◌, ◌%◌, ◌^◌, ◌<◌, sym, refl, ap, ◌∙◌, subst, ⊎_elim, add-zero, arith}
 use native.Mathlib.Nat.{pow-succ'}
 use lib.Bits.{bit_and, bit_or, and_block, and_shifted, and_self, or_shifted_r}
 use lib.Count.{count_trailing_zeros, under}
 use Rattle.std.proofs.lemmas.Nat.{pow_pos}
 use Rattle.std.proofs.lemmas.Bool.{cases_lt}
 use Rattle.bits.specs.Lowest.{Lowest}
-use Rattle.bits.proofs.Bits.{bit, bit-moved_below, bit-or, bit-power, bit-power_other}
+use Rattle.std.specs.Int.{bit_at}
+use Rattle.std.proofs.lemmas.Nat.Bits.{bit_at_cat_low, bit_at_or, bit_at-pow_other, bit_at-pow_same, bit_at-zero}
 
 -- p is the lowest set bit of n, and `above` the bits above it
 record Splits (n k p : ℕ) : Type 0 where
@@ -55,16 +56,16 @@ lowest-parts p q =
 lowest-at : (p q : ℕ) → p < 64 → Lowest (2 ^ p + 2 ^ suc p * q) p (q * 2 ^ suc p)
 lowest-at p q place =
     let some = pow_pos p in
-    let own = bit-power p in
-    let high : (k : ℕ) → k < suc p → bit (q * 2 ^ suc p) k ≡ 0 = λ k low. bit-moved_below q (suc p) k low in
-    let bits = λ (k : ℕ). ap (λ (n : ℕ). bit n k) (lowest-parts p q) ∙ bit-or (2 ^ p) (q * 2 ^ suc p) k in
+    let own = bit_at-pow_same p in
+    let high : (k : ℕ) → k < suc p → bit_at (q * 2 ^ suc p) k ≡ 0 = λ k low. ap (λ (n : ℕ). bit_at n k) (sym (add-zero (q * 2 ^ suc p))) ∙ bit_at_cat_low q (suc p) 0 k low ∙ bit_at-zero k in
+    let bits = λ (k : ℕ). ap (λ (n : ℕ). bit_at n k) (lowest-parts p q) ∙ bit_at_or (2 ^ p) (q * 2 ^ suc p) k in
     record {
       place = place;
       set = bits p ∙ omega (arith, high p (omega arith));
-      below = λ k low set. omega (arith, bits k, bit-power_other p k (omega arith), high k (omega arith));
+      below = λ k low set. omega (arith, bits k, bit_at-pow_other p k (omega arith), high k (omega arith));
       others = λ k. (
         λ set. ⊎_elim (λ low. absurd (omega (arith, high k low))) (λ up. (bits k ∙ omega arith, λ at. omega arith)) (cases_lt k (suc p)),
-        λ (set, apart). let here = bits k in let other = bit-power_other p k apart in omega arith,
+        λ (set, apart). let here = bits k in let other = bit_at-pow_other p k apart in omega arith,
       );
       less = omega arith;
       parts = lowest-parts p q;

@@ -1,5 +1,6 @@
 -- A row of calls on one scan, and the steps of a run that they are.
 use Rattle.std.specs.Prelude.{◌≡◌, ℕ, min, List, [], ◌∷◌, ◌++◌, length, take, drop, Some, None, Ok, Err, Option, Result}
+use Rattle.finder.specs.declared.finder.Finder.{Ghosts}
 use Rattle.landmark.specs.declared.refusal.Fault.{Fault}
 use Rattle.scan.specs.History.{out}
 use Rattle.scan.specs.Runs.{Step, opening, offering, asking, issuing, carrying_out, striking_off, Does, Run, history}
@@ -7,15 +8,12 @@ use Rattle.scan.specs.declared.order.Numbers.{Numbers}
 use Rattle.scan.specs.declared.order.Order.{Order}
 use Rattle.scan.specs.declared.order.Returned.{Returned}
 use Rattle.scan.specs.declared.scan.Scan.{Scan}
+use Rattle.calls.specs.Held.{numbers_held}
 use Rattle.calls.specs.declared.call.Answer.{Answer}
 use Rattle.calls.specs.declared.call.Answer.TheVariants as A
 use Rattle.calls.specs.declared.call.Call.{Call}
+use Rattle.calls.specs.declared.holder.Holder.{Holder}
 use Rattle.calls.specs.declared.call.Call.TheVariants.{Open, Offer, Ask, Issue, CarryOut, StrikeOff}
-
--- the numbers of an order that is held
-abbrev pub numbers_held : Option Order → Option Numbers
-numbers_held None = None
-numbers_held (Some o) = Some o.numbers
 
 -- answers in plain numbers
 abbrev pub numbered : Result Order Fault → Result Numbers Fault
@@ -45,23 +43,22 @@ pub data Row : List Call → List Answer → List Step → Type 0 where
   none : Row [] [] []
   more : {cs : List Call} {answers : List Answer} {vs : List Step} (c : Call) (a : Answer) (ws : List Step) → Row cs answers vs → IsSteps (out (history vs)) c a ws → Row (cs ++ (c ∷ [])) (answers ++ (a ∷ [])) (ws ++ vs)
 
-module _ {F : Type 0} (words halves : F → List (List ℕ)) where
+module _ {F : Type 0} (finder : Ghosts F) where
   -- steps, the newest first, lead from one scan to another
   abbrev pub DoesAll : List Step → Scan F → Scan F → Type 0
   DoesAll [] s t = t ≡ s
-  DoesAll (v ∷ vs) s t = (u : Scan F) × DoesAll vs s u × Does words halves v u t
+  DoesAll (v ∷ vs) s t = (u : Scan F) × DoesAll vs s u × Does finder v u t
 
-  -- what one call does to a scan whose order out is held: its answer, its steps, and the order that is held afterwards
-  pub record Makes (s : Scan F) (held : Option Order) (call : Call) (answer : Answer) (next : Option Order) (t : Scan F) : Type 0 where
+  -- what one call does to a scan whose order out is held: its answer, and its steps
+  pub record Makes (s : Holder F) (call : Call) (answer : Answer) (t : Holder F) : Type 0 where
     pub steps : List Step
-    pub is : IsSteps (numbers_held held) call answer steps
-    pub does : DoesAll steps s t
-    pub holds : t.out ≡ numbers_held next
+    pub is : IsSteps (numbers_held s.order) call answer steps
+    pub does : DoesAll steps s.scan t.scan
 
   -- a row of calls on a scan made of f, as far as there is room for answers: a run with exactly these calls and answers leads to the scan
   pub record RanRow (f : F) (calls : List Call) (before after : List Answer) (order : Option Order) (t : Scan F) : Type 0 where
     pub steps : List Step
-    pub run : Run words halves f steps t
+    pub run : Run finder f steps t
     pub row : Row (take (min (length calls) (length before)) calls) (take (min (length calls) (length before)) after) steps
     pub rest : drop (min (length calls) (length before)) after ≡ drop (min (length calls) (length before)) before
     pub held : numbers_held order ≡ out (history steps)

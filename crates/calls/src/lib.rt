@@ -2,6 +2,7 @@
 #![tactic(auto)]
 
 mod call;
+mod holder;
 mod make;
 mod run;
 

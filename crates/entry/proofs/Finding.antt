@@ -1,22 +1,22 @@
 -- Scanning a whole image in blocks, and entering it.
-use Rattle.std.proofs.Common.{◌≡◌, ℕ, ◌+◌, ◌≤◌, Bool, true, false, not, eqb, ltb, List, [], ◌∷◌, ◌++◌, length, take, Some, None, Ok, Err, Result, sym, refl, ap, ◌∙◌, subst, arith}
+use Rattle.std.proofs.Common.{◌≡◌, ℕ, ◌+◌, ◌≤◌, Bool, true, false, not, eqb, ltb, List, [], ◌∷◌, ◌++◌, length, take, Some, None, Ok, Err, Option, Result, sym, refl, ap, ◌∙◌, subst, arith}
 use Prim.{tt}
+use Rattle.std.specs.Option.{option_map}
 use Rattle.std.proofs.lemmas.List.{length-append, length-take-le, take_all}
 use Rattle.std.proofs.lemmas.Bool.Decides.{nat_tests}
+use Rattle.finder.specs.declared.finder.Finder.{Ghosts}
 use Rattle.landmark.specs.Records.{or_else}
 use Rattle.landmark.specs.declared.refusal.Fault.{Fault}
-use Rattle.landmark.specs.declared.refusal.Refusal.TheVariants.{WrongPlace, Overrun, OtherOrder}
+use Rattle.landmark.specs.declared.refusal.Refusal.TheVariants.{WrongPlace, Overrun}
 use Rattle.scan.specs.History.{History, Opening, Status, opened, took, open_on, longer, status, out}
-use Rattle.scan.specs.Rules.{Line, line, refusal, facts, image_line, open_refusal, offer_refusal, issue_refusal, settle_refusal, same_numbers, end_at}
-use Rattle.scan.specs.Calls.{Settled, At, Stands, with_out, Made, Opened, Offered, Issued, CarriedOut}
-use Rattle.scan.specs.Promise.{SoundEntry}
+use Rattle.scan.specs.Rules.{Line, line, refusal, facts, image_line, open_refusal, offer_refusal, issue_refusal, end_at}
+use Rattle.scan.specs.Calls.{own_facts, At, Stands, with_out, Made, Opened, Offered}
+use Rattle.scan.proofs.Facts.{own_is}
 use Rattle.scan.proofs.Lines.{neither}
-use Rattle.scan.proofs.Standing.{upon_ok, upon_refusal}
+use Rattle.scan.proofs.Standing.{upon_ok, upon_refusal, upon_told}
 use Rattle.scan.proofs.Orders.{sound_issue}
-use Rattle.scan.specs.declared.order.Numbers.{Numbers}
-use Rattle.scan.specs.declared.order.Order.{Order}
-use Rattle.scan.specs.declared.order.Returned.{Returned}
 use Rattle.scan.specs.declared.scan.Scan.{Scan}
+use Rattle.order_client.specs.Entering.{Entered}
 use Rattle.entry.specs.Blocks.{BlockTo}
 use Rattle.entry.specs.Finding.{whole, entry_refusal, Finds}
 
@@ -31,31 +31,27 @@ accepted_block o image place size at room =
 pub ok_same : {A E : Type 0} {a b : A} → ◌≡◌ {A = Result A E} (Ok a) (Ok b) → a ≡ b
 ok_same same = cc
 
--- an order is the one that is out where that has its numbers
-own_order : (n : Numbers) → settle_refusal (Some n) n ≡ None
-own_order n = let same : same_numbers (Some n) n ≡ true = grind (arith, nat_tests) in ap (λ (b : Bool). line (not b) OtherOrder n.entry) same
-
-module _ {F : Type 0} (words halves : F → List (List ℕ)) (list image : List ℕ) where
+module _ {F : Type 0} (finder : Ghosts F) (list image : List ℕ) where
   -- the scan has taken the first bytes of the image, and no order is out
   pub record Scanning (taken : ℕ) (s : Scan F) : Type 0 where
     pub history : History
-    pub stands : Stands words halves history s
+    pub stands : Stands finder history s
     pub is : status history ≡ open_on (whole list image) (take taken image)
     pub free : out history ≡ None
     pub within : taken ≤ length image
 
   -- opening a new scan is refused as the rules say, or nothing of the image is taken yet
-  pub scanning_opened : (f : F) (s t : Scan F) (r : Result (Unit {0}) Fault) → Made words halves f s → Opened words halves s list (length image) r t → refusal r ≡ open_refusal (words f) None list (length image)
-  scanning_opened f s t r made o = upon_refusal _ r _ s t (o.upon [] made.free) ∙ ap (λ (g : F). open_refusal (words g) None list (length image)) made.finder
+  pub scanning_opened : (f : F) (s t : Scan F) (r : Result (Unit {0}) Fault) → Made f s → Opened finder s list (length image) r t → refusal r ≡ open_refusal (finder.words f) None list (length image)
+  scanning_opened f s t r made o = upon_refusal _ r _ s t (o.upon [] made.free) ∙ ap (λ (g : F). open_refusal (finder.words g) None list (length image)) made.finder
 
-  pub scanning_none : (f : F) (s t : Scan F) (r : Result (Unit {0}) Fault) → Made words halves f s → Opened words halves s list (length image) r t → r ≡ Ok tt → Scanning 0 t
+  pub scanning_none : (f : F) (s t : Scan F) (r : Result (Unit {0}) Fault) → Made f s → Opened finder s list (length image) r t → r ≡ Ok tt → Scanning 0 t
   scanning_none f s t r made o accepted =
-      let free : open_refusal (words s.finder) None list (length image) ≡ None = sym (upon_refusal _ r _ s t (o.upon [] made.free)) ∙ ap refusal accepted in
+      let free : open_refusal (finder.words s.finder) None list (length image) ≡ None = sym (upon_refusal _ r _ s t (o.upon [] made.free)) ∙ ap refusal accepted in
       let (_, _, stands) = upon_ok _ r _ s t free (o.upon [] made.free) in
       record { history = opened (whole list image) ∷ []; stands = stands; is = refl; free = refl; within = omega arith }
 
   -- a block up to a cut is accepted
-  pub scanning_more : (taken cut : ℕ) (block : List ℕ) (s t : Scan F) (r : Result ℕ Fault) → Scanning taken s → BlockTo image taken cut block → Offered words halves s taken block r t → (n : ℕ) × (r ≡ Ok n) × (n ≡ taken + length block) × Scanning n t
+  pub scanning_more : (taken cut : ℕ) (block : List ℕ) (s t : Scan F) (r : Result ℕ Fault) → Scanning taken s → BlockTo image taken cut block → Offered finder s taken block r t → (n : ℕ) × (r ≡ Ok n) × (n ≡ taken + length block) × Scanning n t
   scanning_more taken cut block s t r at cuts o =
       let size = cuts.size in
       let within = at.within in
@@ -65,11 +61,12 @@ module _ {F : Type 0} (words halves : F → List (List ℕ)) (list image : List 
       let line-is : offer_refusal (facts (status at.history)) taken (length block) ≡ None = ap (λ (x : Status). offer_refusal (facts x) taken (length block)) at.is ∙ none in
       let (n, is, stands) = upon_ok _ r _ s t line-is u in
       let status-is : status (took block ∷ at.history) ≡ open_on (whole list image) (take taken image ++ block) = ap (λ (x : Status). longer x block) at.is in
-      let after : At words halves (open_on (whole list image) (take taken image ++ block)) t = subst (λ (x : Status). At words halves x t) status-is stands.scan in
+      let after : At finder (open_on (whole list image) (take taken image ++ block)) t = subst (λ (x : Status). At finder x t) status-is stands.scan in
       let (_, same, told) = upon_ok _ r _ s t (sym (upon_refusal _ r _ s t o.always) ∙ ap refusal is) o.always in
-      let answer : n ≡ t.taken = ok_same (sym is ∙ same) ∙ told.0 in
+      let counted : ◌≡◌ {A = Option ℕ} (Some n) (Some after.0.taken) = ap Some (ok_same (sym is ∙ same)) ∙ sym told.0 ∙ ap (option_map (λ p. p.taken)) after.1 in
+      let answer : n ≡ after.0.taken = cc in
       let joined = length-append (take taken image) block in
-      let taken-after = after.taken in
+      let taken-after = after.2.taken in
       let count : n ≡ taken + length block = omega arith in (
         n,
         is,
@@ -84,7 +81,7 @@ module _ {F : Type 0} (words halves : F → List (List ℕ)) (list image : List 
       )
 
   -- and up to the image's end, all is taken
-  pub scanning_all : (taken : ℕ) (block : List ℕ) (s t : Scan F) (r : Result ℕ Fault) → Scanning taken s → BlockTo image taken (length image) block → Offered words halves s taken block r t → Scanning (length image) t
+  pub scanning_all : (taken : ℕ) (block : List ℕ) (s t : Scan F) (r : Result ℕ Fault) → Scanning taken s → BlockTo image taken (length image) block → Offered finder s taken block r t → Scanning (length image) t
   scanning_all taken block s t r at cuts o =
       let (n, _, is, more) = scanning_more taken (length image) block s t r at cuts o in
       let size = cuts.size in
@@ -92,43 +89,27 @@ module _ {F : Type 0} (words halves : F → List (List ℕ)) (list image : List 
       let all : n ≡ length image = omega arith in
       subst (λ (x : ℕ). Scanning x t) all more
 
-  at_whole : (s : Scan F) → (at : Scanning (length image) s) → status at.history ≡ open_on (whole list image) image
-  at_whole s at = at.is ∙ ap (open_on (whole list image)) (take_all (length image) image (omega arith))
+  -- entering by what is then taken answers as the rules say, and soundly
+  pub finds : (f : F) (k : ℕ) (s t : Scan F) (r : Result ℕ Fault) → open_refusal (finder.words f) None list (length image) ≡ None → Scanning (length image) s → Entered s k r t → Finds (finder.words f) list image k r
+  finds f k s t r opens at e = answers r line-is e
+    where
+      own : own_facts s ≡ facts (open_on (whole list image) image)
+      own = own_is finder at.history s at.stands ∙ ap facts (at.is ∙ ap (open_on (whole list image)) (take_all (length image) image (omega arith)))
 
-  pub issue_line : (k : ℕ) (s t : Scan F) (r : Result Order Fault) → Scanning (length image) s → Issued words halves s k r t → refusal r ≡ issue_refusal None (facts (open_on (whole list image) image)) k
-  issue_line k s t r at i =
-      upon_refusal _ r _ s t (i.upon at.history at.stands) ∙ ap (λ x. issue_refusal x (facts (status at.history)) k) at.free ∙ ap (λ (x : Status). issue_refusal None (facts x) k) (at_whole s at)
+      issue-is : issue_refusal s.out (own_facts s) k ≡ issue_refusal None (facts (open_on (whole list image) image)) k
+      issue-is = ap (λ x. issue_refusal x (own_facts s) k) (at.stands.order ∙ at.free) ∙ ap (λ x. issue_refusal None x k) own
 
-  -- the order of an accepted issuing is out
-  issued_told : (k : ℕ) (s t : Scan F) (r : Result Order Fault) (o : Order) → Issued words halves s k r t → r ≡ Ok o → t.out ≡ Some o.numbers
-  issued_told k s t r o i is =
-      let (p, same, told) = upon_ok _ r _ s t (sym (upon_refusal _ r _ s t i.always) ∙ ap refusal is) i.always in
-      let order : p ≡ o = ok_same (sym same ∙ is) in
-      ap (λ (x : Scan F). x.out) told.2 ∙ ap (λ (x : Order). Some x.numbers) order
+      line-is : entry_refusal (finder.words f) list image k ≡ refusal r
+      line-is = ap (λ (x : Line). or_else x (issue_refusal None (facts (open_on (whole list image) image)) k)) opens ∙ sym issue-is ∙ sym (upon_refusal _ r _ s t e)
 
-  -- so carrying it out is accepted
-  pub order_accepted : (k : ℕ) (s t : Scan F) (r : Result Order Fault) (o : Order) (u : Scan F) (q : Result ℕ Returned) → Issued words halves s k r t → r ≡ Ok o → CarriedOut words halves t o q u → q ≡ Ok o.numbers.entry
-  order_accepted k s t r o u q i is c =
-      let free : settle_refusal t.out o.numbers ≡ None = ap (λ x. settle_refusal x o.numbers) (issued_told k s t r o i is) ∙ own_order o.numbers in
-      (subst (λ (x : Line). Settled x o o.numbers.entry q (u ≡ with_out words halves None t) t u) free c.always).0
-
-  -- and its entry is sound
-  pub order_sound : (k : ℕ) (s t : Scan F) (r : Result Order Fault) (o : Order) → Scanning (length image) s → Issued words halves s k r t → r ≡ Ok o → SoundEntry (whole list image) image k o.numbers.entry
-  order_sound k s t r o at i is =
-      let free = sym (issue_line k s t r at i) ∙ ap refusal is in
-      let (p, same, told) = upon_ok _ r _ s t (sym (upon_refusal _ r _ s t (i.upon at.history at.stands)) ∙ ap refusal is) (i.upon at.history at.stands) in
-      let order : p ≡ o = ok_same (sym same ∙ is) in
-      let end : end_at (facts (open_on (whole list image) image)) k ≡ Some o.numbers.entry = ap (λ (x : Status). end_at (facts x) k) (sym (at_whole s at)) ∙ told.1 ∙ ap (λ (x : Order). Some x.numbers.entry) order in
-      sound_issue (whole list image) image k o.numbers.entry (omega arith) (neither (image_line (facts (open_on (whole list image) image)) k) None free).0 end
-
-  module _ (f : F) (opens : open_refusal (words f) None list (length image) ≡ None) where
-    pub finds_refused : (k : ℕ) (s t : Scan F) (r : Result Order Fault) (e : Fault) → Scanning (length image) s → Issued words halves s k r t → r ≡ Err e → entry_refusal (words f) list image k ≡ Some e
-    finds_refused k s t r e at i is = ap (λ (x : Line). or_else x (issue_refusal None (facts (open_on (whole list image) image)) k)) opens ∙ sym (issue_line k s t r at i) ∙ ap refusal is
-
-    pub finds_entered : (k : ℕ) (s t : Scan F) (r : Result Order Fault) (o : Order) → Scanning (length image) s → Issued words halves s k r t → r ≡ Ok o → Finds (words f) list image k (Ok o.numbers.entry)
-    finds_entered k s t r o at i is =
-        (ap (λ (x : Line). or_else x (issue_refusal None (facts (open_on (whole list image) image)) k)) opens ∙ sym (issue_line k s t r at i) ∙ ap refusal is, order_sound k s t r o at i is)
+      answers : (r : Result ℕ Fault) → entry_refusal (finder.words f) list image k ≡ refusal r → Entered s k r t → Finds (finder.words f) list image k r
+      answers (Err g) is u = is
+      answers (Ok e) is u =
+          let free : issue_refusal None (facts (open_on (whole list image) image)) k ≡ None = sym issue-is ∙ sym (upon_refusal _ (Ok e) _ s t u) in
+          let told = upon_told _ e (λ (d : ℕ). (end_at (own_facts s) k ≡ Some d) × (t ≡ with_out None s)) s t u in
+          let entry : end_at (facts (open_on (whole list image) image)) k ≡ Some e = ap (λ x. end_at x k) (sym own) ∙ told.0 in
+          (is, sound_issue (whole list image) image k e (omega arith) (neither (image_line (facts (open_on (whole list image) image)) k) None free).0 entry)
 
 -- an accepted call is not refused
 pub not_refused : {A E X : Type 0} {r : Result A E} {a : A} {f : E} → r ≡ Ok a → r ≡ Err f → X
-not_refused ok err = let z : ◌≡◌ {A = ℕ} 0 1 = cc in absurd (omega arith)
+not_refused ok err = cc

@@ -4,6 +4,7 @@ ghost use Rattle.entry.specs.Finding.{Finds};
 use crate::blocks::block_to;
 use finder::Finder;
 use landmark::Fault;
+use order_client::enter;
 use scan::Scan;
 
 // Scans an image in blocks that end at the cuts, and answers where it is entered by the landmark, or why it is not. The
@@ -24,9 +25,5 @@ pub fn find_entry<F: Finder + Drop>(
         taken = scan.offer(taken, block_to(image, taken, *cut))?;
     }
     scan.offer(taken, block_to(image, taken, image.len()))?;
-    let order = scan.issue(landmark)?;
-    match scan.carry_out(order) {
-        Ok(entry) => Ok(entry),
-        Err(_) => unreachable(),
-    }
+    enter(&mut scan, landmark)
 }

@@ -82,9 +82,3 @@ pub record Took {F : Type 0} (words halves : F → List (List ℕ)) (s : F) (b :
   pub kept : words t ≡ words s
   pub half : halves t ≡ advance_all (words s) b (halves s)
   pub tells : r ≡ mask (words s) (halves t)
-
--- what resting and then taking the bytes in order does to a finder, and what it answers
-pub record Heard {F : Type 0} (words halves : F → List (List ℕ)) (s : F) (bytes : List ℕ) (t : F) (r : ℕ) : Type 0 where
-  pub kept : words t ≡ words s
-  pub half : halves t ≡ half_read (words s) bytes
-  pub tells : r ≡ mask (words s) (half_read (words s) bytes)

@@ -39,10 +39,10 @@ impl<A: Finder, B: Finder> Finder for Pair<A, B> {
     }
 
     fn count(&self) -> usize {
-        let both = self.left.count() + self.right.count();
-        if both < MOST_WORDS { both } else { MOST_WORDS }
+        (self.left.count() + self.right.count()).min(MOST_WORDS)
     }
 
+    // The side of a word is chosen in place, here and in `byte_of`: naming it would take more lines than the two choices.
     fn length_of(&self, k: usize) -> usize {
         let before = self.left.count();
         if k >= MOST_WORDS {

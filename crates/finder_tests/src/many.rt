@@ -1,5 +1,4 @@
 // The link finder on words that share bytes, and on as many and as long words as a list may have.
-use crate::links::EMPTY;
 use finder::{Finder, hear};
 use landmark::{Element, write_element};
 use link::{LinkFinder, Node, build};
@@ -15,40 +14,42 @@ const PREFIX: &[u8] = b"\x04\x00\x01\x00\x01\x00\x04\x00\x02\x00ab\x05\x00\x02\x
 const SUFFIX: &[u8] = b"\x04\x00\x01\x00\x01\x00\x04\x00\x02\x00bc\x05\x00\x02\x00abc";
 
 // What a finder on the list and its table answers to the last byte.
-fn heard<'a>(list: &'a [u8], table: &'a [Node], bytes: &[u8]) -> Result<u64, Fail> {
-    let mut finder = LinkFinder::new();
-    finder.mount(list, table)?;
+fn heard(list: &[u8], table: &[Node], bytes: &[u8]) -> Result<u64, Fail> {
+    let mut finder = LinkFinder::mounted(list, table)?;
     Ok(hear(&mut finder, bytes))
+}
+
+// The table has so many nodes, and the words that end these bytes are those of the masks.
+fn hears(
+    rt: &impl Abort,
+    list: &[u8],
+    table: &mut [Node],
+    nodes: usize,
+    masks: &[(&[u8], u64)],
+) -> Result<(), Fail> {
+    assert_eq!(rt; build(list, table)?, nodes);
+    for (bytes, mask) in masks {
+        assert_eq!(rt; heard(list, table, bytes)?, *mask);
+    }
+    Ok(())
 }
 
 #[test]
 fn equal_words(rt: HostRuntime) -> Result<(), Fail> {
-    let mut table = [EMPTY; 5];
-    assert_eq!(rt; build(EQUAL, &mut table)?, 3);
-    assert_eq!(rt; heard(EQUAL, &table, b"ab")?, 3);
-    assert_eq!(rt; heard(EQUAL, &table, b"aab")?, 3);
-    assert_eq!(rt; heard(EQUAL, &table, b"aba")?, 0);
-    Ok(())
+    let masks: [(&[u8], u64); 3] = [(b"ab", 3), (b"aab", 3), (b"aba", 0)];
+    hears(&rt, EQUAL, &mut [Node::ROOT; 5], 3, &masks)
 }
 
 #[test]
 fn a_word_that_is_a_prefix(rt: HostRuntime) -> Result<(), Fail> {
-    let mut table = [EMPTY; 6];
-    assert_eq!(rt; build(PREFIX, &mut table)?, 4);
-    assert_eq!(rt; heard(PREFIX, &table, b"ab")?, 1);
-    assert_eq!(rt; heard(PREFIX, &table, b"abc")?, 2);
-    assert_eq!(rt; heard(PREFIX, &table, b"abcab")?, 1);
-    Ok(())
+    let masks: [(&[u8], u64); 3] = [(b"ab", 1), (b"abc", 2), (b"abcab", 1)];
+    hears(&rt, PREFIX, &mut [Node::ROOT; 6], 4, &masks)
 }
 
 #[test]
 fn a_word_that_is_a_suffix(rt: HostRuntime) -> Result<(), Fail> {
-    let mut table = [EMPTY; 6];
-    assert_eq!(rt; build(SUFFIX, &mut table)?, 6);
-    assert_eq!(rt; heard(SUFFIX, &table, b"bc")?, 1);
-    assert_eq!(rt; heard(SUFFIX, &table, b"abc")?, 3);
-    assert_eq!(rt; heard(SUFFIX, &table, b"abbc")?, 1);
-    Ok(())
+    let masks: [(&[u8], u64); 3] = [(b"bc", 1), (b"abc", 3), (b"abbc", 1)];
+    hears(&rt, SUFFIX, &mut [Node::ROOT; 6], 6, &masks)
 }
 
 // A list that has its start.
@@ -58,6 +59,7 @@ fn started(heap: Global) -> Result<Vec<u8>, AllocError> {
     Ok(list)
 }
 
+// As the random tests of scans do: test crates share no library, and no library of the project has a heap.
 fn add_word(list: &mut Vec<u8>, word: &[u8]) -> Result<(), Fail> {
     let mut record = [0u8; 68];
     let end = write_element(&mut record, 0, Element::Run(word))?;
@@ -71,21 +73,9 @@ fn as_many_equal_words_as_there_may_be(rt: HostRuntime) -> Result<(), Fail> {
     for _ in 0..64 {
         add_word(&mut list, b"ab")?;
     }
-    let mut table = vec![in rt.alloc(); EMPTY; 129]?;
+    let mut table = vec![in rt.alloc(); Node::ROOT; 129]?;
     assert_eq!(rt; build(list.as_slice(), table.as_mut_slice())?, 3);
     assert_eq!(rt; heard(list.as_slice(), table.as_slice(), b"xab")?, u64::MAX);
-    Ok(())
-}
-
-// Byte k, 64 times, is word k and no other.
-fn hears_each<'a>(rt: &impl Abort, list: &'a [u8], table: &'a [Node]) -> Result<(), Fail> {
-    let mut finder = LinkFinder::new();
-    finder.mount(list, table)?;
-    for k in 0..64u8 {
-        assert_eq!(rt; hear(&mut finder, &[k; 63]), 0);
-        assert_eq!(rt; finder.take(k), 1u64 << k);
-        assert_eq!(rt; finder.take(k), 1u64 << k);
-    }
     Ok(())
 }
 
@@ -95,7 +85,14 @@ fn as_many_and_as_long_words_as_there_may_be(rt: HostRuntime) -> Result<(), Fail
     for k in 0..64u8 {
         add_word(&mut list, &[k; 64])?;
     }
-    let mut table = vec![in rt.alloc(); EMPTY; 4097]?;
+    let mut table = vec![in rt.alloc(); Node::ROOT; 4097]?;
     assert_eq!(rt; build(list.as_slice(), table.as_mut_slice())?, 4097);
-    hears_each(&rt, list.as_slice(), table.as_slice())
+    let mut finder = LinkFinder::mounted(list.as_slice(), table.as_slice())?;
+    // byte k, 64 times, is word k and no other
+    for k in 0..64u8 {
+        assert_eq!(rt; hear(&mut finder, &[k; 63]), 0);
+        assert_eq!(rt; finder.take(k), 1u64 << k);
+        assert_eq!(rt; finder.take(k), 1u64 << k);
+    }
+    Ok(())
 }

@@ -1,20 +1,25 @@
 // Finders side by side, and pairs of pairs.
-use crate::shifts::THREE;
+use crate::both::THREE;
 use finder::{Finder, Pair, hear};
 use shift::{ShiftFinder, build};
-use std::process::Abort;
 use std::test::Fail;
 
-fn nested<'a>(rt: &impl Abort, list: &'a [u8], table: &'a [u64]) -> Result<(), Fail> {
-    let mut left = ShiftFinder::new();
-    left.mount(list, table)?;
-    let mut right = ShiftFinder::new();
-    right.mount(list, table)?;
-    let mut third = ShiftFinder::new();
-    third.mount(list, table)?;
+// A finder on the list and its table.
+fn mounted<'a>(list: &'a [u8], table: &'a [u64]) -> Result<ShiftFinder<'a>, Fail> {
+    let mut finder = ShiftFinder::mounted(list, table)?;
+    Ok(finder)
+}
+
+#[test]
+fn pairs_of_pairs(rt: HostRuntime) -> Result<(), Fail> {
+    let mut table = [0u64; 256];
+    assert_eq!(rt; build(THREE, &mut table)?, 256);
     let mut both = Pair {
-        left: Pair { left, right },
-        right: third,
+        left: Pair {
+            left: mounted(THREE, &table)?,
+            right: mounted(THREE, &table)?,
+        },
+        right: mounted(THREE, &table)?,
     };
     assert_eq!(rt; both.count(), 9);
     assert_eq!(rt; hear(&mut both, b"ab"), 0b101101101);
@@ -25,11 +30,4 @@ fn nested<'a>(rt: &impl Abort, list: &'a [u8], table: &'a [u64]) -> Result<(), F
     assert_eq!(rt; both.length_of(9), 0);
     assert_eq!(rt; both.length_of(64), 0);
     Ok(())
-}
-
-#[test]
-fn pairs_of_pairs(rt: HostRuntime) -> Result<(), Fail> {
-    let mut table = [0u64; 256];
-    assert_eq!(rt; build(THREE, &mut table)?, 256);
-    nested(&rt, THREE, &table)
 }

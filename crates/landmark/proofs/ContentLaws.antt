@@ -1,6 +1,7 @@
 -- What it says of the bytes that an item stands there.
 use Rattle.std.proofs.Common.{◌≡◌, ℕ, ◌+◌, ◌-◌, ◌*◌, ◌/◌, ◌%◌, ◌<◌, ◌≤◌, Bool, true, false, cond, eqb, leb, List, [], ◌∷◌, ◌++◌, length, get_or, None, Ok, Err, Result, sym, refl, ap, ◌∙◌, subst, arith}
-use Rattle.std.proofs.lemmas.Bool.{eqb-true, leb-true, and_parts, cond-true}
+use Rattle.std.proofs.lemmas.Bool.{eqb-true, leb-true, and_parts, cond-true, cond_both}
+use Rattle.std.proofs.lemmas.List.{nil_from_length}
 use Rattle.landmark.specs.Records.{Item, start, run, star, any, unfit, kind_of, body_of, as_two, bare, start_of, run_of, gap_of, item_of, is_whole, item_at, two_bytes, body_at}
 use Rattle.landmark.specs.declared.element.Role.TheVariants.{Entry, Bar}
 use Rattle.landmark.specs.declared.refusal.Refusal.{Refusal}
@@ -9,17 +10,10 @@ use Rattle.landmark.specs.declared.refusal.Refusal.{Refusal}
 abbrev pub Bytes : List ℕ → Type 0
 Bytes l = (k : ℕ) → get_or l k 0 < 256
 
--- a test, and what came of it
-by_cond : {A P : Type 0} (b : Bool) (x y z : A) → cond b x y ≡ z → (b ≡ true → x ≡ z → P) → (b ≡ false → y ≡ z → P) → P
-by_cond true x y z h f g = f refl h
-by_cond false x y z h f g = g refl h
-
-no_item : {P : Type 0} (why : Refusal) (i : Item) → Err why ≡ Ok i → P
-no_item why i e = let z : ◌≡◌ {A = ℕ} 0 1 = cc in absurd (omega arith)
-
 -- a test that is passed on the way to an item
 passed : (b : Bool) (x : Result Item Refusal) (why : Refusal) (i : Item) → cond b x (Err why) ≡ Ok i → (b ≡ true) × (x ≡ Ok i)
-passed b x why i h = by_cond b x (Err why) (Ok i) h (λ t e. (t, e)) (λ f e. no_item why i e)
+passed true x why i h = (refl, h)
+passed false x why i h = cc
 
 same_item : (i j : Item) → ◌≡◌ {A = Result Item Refusal} (Ok i) (Ok j) → i ≡ j
 same_item i j e = cc
@@ -55,10 +49,11 @@ start_content : (body : List ℕ) (i : Item) → start_of body ≡ Ok i → Cont
 start_content body i e =
     let sized = passed (eqb (length body) 2) _ _ i e in
     let size = eqb-true _ _ sized.0 in
-    by_cond (eqb (two_bytes body 0) 1) _ _ _ sized.1
+    cond_both (eqb (two_bytes body 0) 1) _ _ (λ r. r ≡ Ok i → Content 1 body i)
     (λ t is. subst (Content 1 body) (same_item (start Entry) i is) (record { kind_is = refl; fit = refl; body_is = λ h. two_bytes-of body size h ∙ ap as_two (eqb-true _ _ t) }))
     (λ f rest. let second = passed (eqb (two_bytes body 0) 2) _ _ i rest in
     subst (Content 1 body) (same_item (start Bar) i second.1) (record { kind_is = refl; fit = refl; body_is = λ h. two_bytes-of body size h ∙ ap as_two (eqb-true _ _ second.0) }))
+    sized.1
 
 run_content : (body : List ℕ) (i : Item) → run_of body ≡ Ok i → Content 2 body i
 run_content body i e =
@@ -71,22 +66,19 @@ gap_content body i e =
     let counted = passed _ _ _ i sized.1 in
     subst (Content 3 body) (same_item _ i counted.1) (record { kind_is = refl; fit = cond-true _ _ _ counted.0; body_is = four-bytes_of body (eqb-true _ _ sized.0) })
 
-empty : (body : List ℕ) → length body ≡ 0 → body ≡ []
-empty [] e = refl
-empty (x ∷ body) e = absurd (omega arith)
-
 bare-content : (kind : ℕ) (j : Item) (body : List ℕ) (i : Item) → kind ≡ kind_of j → unfit j ≡ None → body_of j ≡ [] → bare j body ≡ Ok i → Content kind body i
 bare-content kind j body i k u none e =
     let sized = passed _ _ _ i e in
-    subst (Content kind body) (same_item j i sized.1) (record { kind_is = k; fit = u; body_is = λ h. empty body (eqb-true _ _ sized.0) ∙ sym none })
+    subst (Content kind body) (same_item j i sized.1) (record { kind_is = k; fit = u; body_is = λ h. nil_from_length body (eqb-true _ _ sized.0) ∙ sym none })
 
 pub item-content : (kind : ℕ) (body : List ℕ) (i : Item) → item_of kind body ≡ Ok i → Content kind body i
 item-content kind body i e =
-    by_cond (eqb kind 1) _ _ _ e (λ t is. subst (λ k. Content k body i) (sym (eqb-true kind 1 t)) (start_content body i is)) (λ _ e2.
-    by_cond (eqb kind 2) _ _ _ e2 (λ t is. subst (λ k. Content k body i) (sym (eqb-true kind 2 t)) (run_content body i is)) (λ _ e3.
-    by_cond (eqb kind 3) _ _ _ e3 (λ t is. subst (λ k. Content k body i) (sym (eqb-true kind 3 t)) (gap_content body i is)) (λ _ e4.
-    by_cond (eqb kind 4) _ _ _ e4 (λ t is. bare-content kind star body i (eqb-true kind 4 t) refl refl is) (λ _ e5.
-    by_cond (eqb kind 5) _ _ _ e5 (λ t is. bare-content kind any body i (eqb-true kind 5 t) refl refl is) (λ _ none. no_item _ i none)))))
+    let P : Result Item Refusal → Type 0 = λ r. r ≡ Ok i → Content kind body i in
+    cond_both (eqb kind 1) _ _ P (λ t is. subst (λ k. Content k body i) (sym (eqb-true kind 1 t)) (start_content body i is)) (λ _.
+    cond_both (eqb kind 2) _ _ P (λ t is. subst (λ k. Content k body i) (sym (eqb-true kind 2 t)) (run_content body i is)) (λ _.
+    cond_both (eqb kind 3) _ _ P (λ t is. subst (λ k. Content k body i) (sym (eqb-true kind 3 t)) (gap_content body i is)) (λ _.
+    cond_both (eqb kind 4) _ _ P (λ t is. bare-content kind star body i (eqb-true kind 4 t) refl refl is) (λ _.
+    cond_both (eqb kind 5) _ _ P (λ t is. bare-content kind any body i (eqb-true kind 5 t) refl refl is) (λ _ none. cc))))) e
 
 -- the record at a place is whole, and its kind and body are those of the item
 pub record Stands (l : List ℕ) (p : ℕ) (i : Item) : Type 0 where

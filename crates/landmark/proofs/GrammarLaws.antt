@@ -12,7 +12,8 @@ use Rattle.landmark.specs.declared.judge.Sort.{Sort}
 use Rattle.landmark.specs.declared.judge.Sort.TheVariants as S
 use Rattle.landmark.proofs.JudgeLaws.{adds_gap}
 
-abbrev Fit : Item → Type 0
+-- a record can stand for the item
+abbrev pub Fit : Item → Type 0
 Fit i = unfit i ≡ None
 
 -- no record of the row is refused behind those before it, and the last is a run
@@ -106,10 +107,10 @@ at_end row small e =
     record { items = refl; first = behind_run (newest row) e; steps = tt; each = tt; few = omega arith; few_words = omega arith }
   where
     behind_run : (o : Option Sort) → ends_well o ≡ true → First o [] []
-    behind_run None e = let z : ◌≡◌ {A = ℕ} 0 1 = cc in absurd (omega arith)
-    behind_run (Some S.Start) e = let z : ◌≡◌ {A = ℕ} 0 1 = cc in absurd (omega arith)
+    behind_run None e = cc
+    behind_run (Some S.Start) e = cc
     behind_run (Some S.Run) e = tt
-    behind_run (Some S.Operator) e = let z : ◌≡◌ {A = ℕ} 0 1 = cc in absurd (omega arith)
+    behind_run (Some S.Operator) e = cc
 
 -- a start opens the landmark that the steps behind it make up
 put-start : (role : Role) (row : Row) (is : List Item) → row_refusal row S.Start ≡ None → Rest (start role ∷ row) is (grouped is) → Rest row (start role ∷ is) (grouped (start role ∷ is))
@@ -127,9 +128,9 @@ put-start role row is e r =
   where
     opens : (o : Option Sort) → may_follow o S.Start ≡ true → First o [] (grouped (start role ∷ is)).landmarks
     opens None m = (refl, omega arith)
-    opens (Some S.Start) m = let z : ◌≡◌ {A = ℕ} 0 1 = cc in absurd (omega arith)
+    opens (Some S.Start) m = cc
     opens (Some S.Run) m = tt
-    opens (Some S.Operator) m = let z : ◌≡◌ {A = ℕ} 0 1 = cc in absurd (omega arith)
+    opens (Some S.Operator) m = cc
 
 -- a run closes a step
 put-run : (w : List ℕ) (row : Row) (is : List Item) → Fit (run w) → row_refusal row S.Run ≡ None → Rest (run w ∷ row) is (grouped is) → Rest row (run w ∷ is) (grouped (run w ∷ is))
@@ -146,7 +147,7 @@ put-run w row is fit e r =
     }
   where
     closes : (o : Option Sort) → may_follow o S.Run ≡ true → First o (grouped (run w ∷ is)).steps (grouped is).landmarks
-    closes None m = let z : ◌≡◌ {A = ℕ} 0 1 = cc in absurd (omega arith)
+    closes None m = cc
     closes (Some S.Start) m = refl
     closes (Some S.Run) m = tt
     closes (Some S.Operator) m = omega arith
@@ -170,8 +171,8 @@ put-before i row is (s ∷ ss) ms sort fit e r =
     }
   where
     goes : (o : Option Sort) → may_follow o S.Operator ≡ true → First o (put_operator i (s ∷ ss)) ms
-    goes None m = let z : ◌≡◌ {A = ℕ} 0 1 = cc in absurd (omega arith)
-    goes (Some S.Start) m = let z : ◌≡◌ {A = ℕ} 0 1 = cc in absurd (omega arith)
+    goes None m = cc
+    goes (Some S.Start) m = cc
     goes (Some S.Run) m = tt
     goes (Some S.Operator) m = omega arith
 
@@ -234,7 +235,7 @@ accepts_step (i ∷ ops) w row tail (good, goods) narrow few may more =
   where
     operator_may : (o : Option Sort) → MayRead o (i ∷ ops) → may_follow o S.Operator ≡ true
     operator_may None m = absurd m
-    operator_may (Some S.Start) m = let z : ◌≡◌ {A = ℕ} 0 1 = cc in absurd (omega arith)
+    operator_may (Some S.Start) m = cc
     operator_may (Some S.Run) m = refl
     operator_may (Some S.Operator) m = refl
 
@@ -287,8 +288,8 @@ well_formed_accepted ms w =
 
 -- and they are put together to these landmarks again
 grouped-operator : (i : Item) (is : List Item) → sort_of i ≡ S.Operator → grouped (i ∷ is) ≡ with_operator i (grouped is)
-grouped-operator (start role) is e = let z : ◌≡◌ {A = ℕ} 0 1 = cc in absurd (omega arith)
-grouped-operator (run w) is e = let z : ◌≡◌ {A = ℕ} 0 1 = cc in absurd (omega arith)
+grouped-operator (start role) is e = cc
+grouped-operator (run w) is e = cc
 grouped-operator (gap least greatest) is e = refl
 grouped-operator star is e = refl
 grouped-operator any is e = refl

@@ -2,6 +2,8 @@ pub mod RecordLaws
 pub mod PutLaws
 pub mod JudgeLaws
 pub mod ListLaws
+pub mod ReadingLaws
+pub mod WordLaws
 pub mod ContentLaws
 pub mod GrammarLaws
 pub mod VerdictLaws

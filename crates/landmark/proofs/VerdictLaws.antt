@@ -4,7 +4,7 @@ use Rattle.std.proofs.ByRecursion.{All-append}
 use Rattle.std.proofs.lemmas.List.{drop_all, drop_at, drop-drop, drop_more, length-drop, length-take, take-append-drop, get_or-drop}
 use Rattle.std.proofs.lemmas.Bool.{cond-true, cond-false, le-leb, lt-leb, cases_lt}
 use Rattle.std.specs.List.{flat_map, AllByRecursion}
-use Rattle.landmark.specs.Records.{Item, start, run, gap, star, any, unfit, encoding, item_at, after, two_bytes, body_at, body_of, kind_of, as_two}
+use Rattle.landmark.specs.Records.{Item, start, run, gap, star, any, encoding, item_at, after, two_bytes, body_at, body_of, kind_of, as_two}
 use Rattle.landmark.specs.Lists.{Row, Parts, ended, broken, part, part_of, parts, parts_from, judged, unless, counts, list_verdict, newest, ends_well, row_refusal, sort_of, landmarks_in, words_in, bytes_in}
 use Rattle.landmark.specs.Grammar.{Step, Landmark, Groups, GoodOperator, GoodStep, GoodLandmark, IsListOf, step_items, landmark_items, grouped, put_operator, with_operator, items_of, runs_of, landmarks_of, list_items, list_counts, all_words, sizes, AcceptedExactly}
 use Rattle.landmark.specs.declared.judge.Sort.TheVariants as S
@@ -12,13 +12,10 @@ use Rattle.landmark.specs.declared.list.Counts.{Counts}
 use Rattle.landmark.specs.declared.refusal.Refusal.{Refusal}
 use Rattle.landmark.specs.declared.refusal.Fault.{Fault}
 use Rattle.landmark.proofs.ContentLaws.{Bytes, stands, two_split}
-use Rattle.landmark.proofs.GrammarLaws.{Accepts, accepted_well_formed, well_formed_accepted, grouped-list}
+use Rattle.landmark.proofs.GrammarLaws.{Accepts, Fit, accepted_well_formed, well_formed_accepted, grouped-list}
 use Rattle.landmark.proofs.JudgeLaws.{adds_gap}
-use Rattle.landmark.proofs.ListLaws.{parts-at_end, parts-at_record, parts-at_fault}
+use Rattle.landmark.proofs.ListLaws.{parts-at_end, parts-at_record}
 use Rattle.landmark.proofs.RecordLaws.{encoded_item, item_from, size-from, two_again}
-
-abbrev Fit : Item → Type 0
-Fit i = unfit i ≡ None
 
 -- the records reach the list's end
 abbrev pub Complete : Parts → Type 0
@@ -32,17 +29,17 @@ onto [] row = row
 onto (i ∷ is) row = onto is (i ∷ row)
 
 unrefused : (o : Option Refusal) (p : ℕ) (r : Result Counts Fault) (c : Counts) → unless o p r ≡ Ok c → (o ≡ None) × (r ≡ Ok c)
-unrefused (Some why) p r c e = let z : ◌≡◌ {A = ℕ} 0 1 = cc in absurd (omega arith)
+unrefused (Some why) p r c e = cc
 unrefused None p r c e = (refl, e)
 
 finished : (b : Bool) (r : Counts) (f : Fault) (c : Counts) → cond b (Ok r) (Err f) ≡ Ok c → (b ≡ true) × (c ≡ r)
 finished true r f c e = (refl, cc)
-finished false r f c e = let z : ◌≡◌ {A = ℕ} 0 1 = cc in absurd (omega arith)
+finished false r f c e = cc
 
 -- judging accepts exactly the complete records that are accepted as a row
 pub accepted_parts : (size : ℕ) (row : Row) (ps : Parts) (c : Counts) → judged size row ps ≡ Ok c → Complete ps × Accepts row (items_of ps) × (c ≡ counts (onto (items_of ps) row))
 accepted_parts size row ended c e = let end = finished (ends_well (newest row)) (counts row) _ c e in (tt, end.0, end.1)
-accepted_parts size row (broken why p) c e = let z : ◌≡◌ {A = ℕ} 0 1 = cc in absurd (omega arith)
+accepted_parts size row (broken why p) c e = cc
 accepted_parts size row (part p i rest) c e =
     let free = unrefused (row_refusal row (sort_of i)) p _ c e in
     let more = accepted_parts size (i ∷ row) rest c free.1 in
@@ -238,8 +235,7 @@ accepted_exactly l (Err f) bytes e =
     λ ms is. let read = list_read l ms is in
     let accepts = subst (Accepts []) (sym read.items) (well_formed_accepted ms is.well_formed) in
     let ok = parts-accepted (length l) [] (parts_from l 0) read.complete accepts in
-    let z : ◌≡◌ {A = ℕ} 0 1 = cc in
-    omega arith
+    cc
 
 -- every record of an accepted list is read, one after another
 pub accepted_complete : (l : List ℕ) (c : Counts) → list_verdict l ≡ Ok c → Complete (parts_from l 0)
@@ -249,7 +245,3 @@ pub complete_record : (l : List ℕ) (p : ℕ) (i : Item) → item_at l p ≡ Ok
 complete_record l p i e whole =
     let fits = (stands l p i e).fits in
     subst Complete (parts-at_record l p i (omega arith) e) whole
-
-pub complete_fault : (l : List ℕ) (p : ℕ) (why : Refusal) → item_at l p ≡ Err why → Complete (parts_from l p) → parts_from l p ≡ ended
-complete_fault l p why e whole =
-    ⊎_elim (λ before. absurd (subst Complete (parts-at_fault l p why before e) whole)) (λ past. parts-at_end l p past) (cases_lt p (length l))

@@ -8,6 +8,7 @@ use Rattle.landmark.specs.declared.element.Role.{Role}
 use Rattle.landmark.specs.declared.judge.Sort.TheVariants.{Operator}
 use Rattle.landmark.specs.declared.list.Counts.{Counts}
 use Rattle.landmark.specs.declared.refusal.Fault.{Fault}
+use Rattle.landmark.specs.declared.word.ListWords.{ListWords}
 use Rattle.landmark.specs.declared.word.Word.{Word}
 
 -- a word, with the operators in front of it
@@ -141,6 +142,10 @@ words_of l = words_from l 0
 abbrev pub NextWord : List ℕ → ℕ → Option Word → Type 0
 NextWord l p None = words_from l p ≡ []
 NextWord l p (Some w) = (words_from l p ≡ w.bytes.now ∷ words_from l w.next) × (p < w.next) × (w.next ≤ length l)
+
+-- what is left of a list's words
+abbrev pub words_left : ListWords → List (List ℕ)
+words_left s = words_from s.list.now s.place
 
 -- the bytes are those of these landmarks, which are well formed
 pub record IsListOf (l : List ℕ) (ms : List Landmark) : Type 0 where

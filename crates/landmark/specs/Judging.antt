@@ -1,7 +1,7 @@
 -- What the judge keeps of a row of records.
 use Rattle.std.specs.Prelude.{◌≡◌, ◌∷◌, Some, None, Ok, Err, Result}
 use Rattle.landmark.specs.Records.{Item}
-use Rattle.landmark.specs.Lists.{Row, allowance, newest, landmarks_in, words_in, bytes_in, gap_since, row_refusal, sort_of}
+use Rattle.landmark.specs.Lists.{Row, allowance, counts, newest, gap_since, row_refusal, sort_of}
 use Rattle.landmark.specs.Spacings.{capped}
 use Rattle.landmark.specs.declared.judge.Judge.{Judge}
 use Rattle.landmark.specs.declared.judge.Sort.TheVariants.{Operator}
@@ -10,9 +10,7 @@ use Rattle.landmark.specs.declared.refusal.Refusal.{Refusal}
 
 -- the judge has judged the row
 pub record HasJudged (j : Judge) (row : Row) : Type 0 where
-  pub landmarks : j.landmarks ≡ landmarks_in row
-  pub words : j.words ≡ words_in row
-  pub run_bytes : j.run_bytes ≡ bytes_in row
+  pub counts : j.counts ≡ counts row
   pub newest : j.newest ≡ newest row
   pub spacing : j.spacing ≡ capped (gap_since row)
 

@@ -1,10 +1,12 @@
 -- The records of a list: what stands at a place, and the bytes of an element.
-use Rattle.std.specs.Prelude.{◌≡◌, ℕ, ◌+◌, ◌-◌, ◌*◌, ◌/◌, ◌%◌, Bool, cond, ◌&&◌, List, [], ◌∷◌, ◌++◌, length, take, drop, Some, None, Ok, Err, Option, Result, ◌==◌, nat_le, slice_index}
+use Rattle.std.specs.Prelude.{◌≡◌, ℕ, ◌+◌, ◌-◌, ◌*◌, ◌/◌, ◌%◌, Bool, cond, ◌&&◌, List, [], ◌∷◌, ◌++◌, length, take, drop, Some, None, Ok, Err, Option, Result, ◌==◌, nat_le, slice_index, codes}
 use Rattle.landmark.specs.declared.element.Role.{Role}
 use Rattle.landmark.specs.declared.element.Role.TheVariants.{Entry, Bar}
 use Rattle.landmark.specs.declared.element.Element.{Element}
 use Rattle.landmark.specs.declared.element.Element.TheVariants as E
 use Rattle.landmark.specs.declared.element.Read.{Read}
+use Rattle.landmark.specs.declared.kind.Kind.{Kind}
+use Rattle.landmark.specs.declared.kind.Kind.TheVariants as K
 use Rattle.landmark.specs.declared.refusal.Refusal.{Refusal}
 use Rattle.landmark.specs.declared.refusal.Refusal.TheVariants.{CutRecord, UnknownRecord, WrongBodySize, BadValue, NoSpace}
 use Rattle.landmark.specs.declared.refusal.Fault.{Fault}
@@ -39,9 +41,27 @@ two_bytes l p = slice_index l p + 256 * slice_index l (p + 1)
 abbrev pub as_two : ℕ → List ℕ
 as_two n = n % 256 ∷ n / 256 ∷ []
 
+-- the numbers of roles and of kinds of records
 abbrev pub role_number : Role → ℕ
 role_number Entry = 1
 role_number Bar = 2
+
+abbrev pub kind_number : Kind → ℕ
+kind_number K.Start = 1
+kind_number K.Run = 2
+kind_number K.Gap = 3
+kind_number K.Star = 4
+kind_number K.Any = 5
+
+-- how a role is printed
+abbrev pub role_name : Role → List ℕ
+role_name Entry = codes "entry"
+role_name Bar = codes "bar"
+
+-- a number stands for the value that has it, and is refused where none has it
+abbrev pub Numbered : {A : Type 0} → (A → ℕ) → Refusal → ℕ → Result A Refusal → Type 0
+Numbered number refusal n (Ok x) = number x ≡ n
+Numbered {A} number refusal n (Err why) = (why ≡ refusal) × ((x : A) → ¬ (number x ≡ n))
 
 -- the kind and the body of an item's record, and the whole record: its length counts the kind and the body
 abbrev pub kind_of : Item → ℕ
@@ -115,9 +135,9 @@ item_at l p = record_item (length l - p) (two_bytes l p) (two_bytes l (p + 2)) (
 abbrev pub after : List ℕ → ℕ → ℕ
 after l p = p + 2 + two_bytes l p
 
--- reading one element: the item at the place and the place after it, or the refusal at the given place
+-- reading one element: the item at the place, the place after it and the place, or the refusal at the given place
 abbrev pub Reads : List ℕ → ℕ → Result Read Fault → Type 0
-Reads l p (Ok r) = (item_at l p ≡ Ok (item r.element)) × (r.next ≡ after l p)
+Reads l p (Ok r) = (item_at l p ≡ Ok (item r.element)) × (r.next ≡ after l p) × (r.place ≡ p)
 Reads l p (Err f) = (item_at l p ≡ Err f.refusal) × (f.detail ≡ p)
 
 -- why no record can stand for the item: none where one can

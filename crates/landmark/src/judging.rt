@@ -11,10 +11,10 @@ use crate::refusal::{Fault, Refusal};
 use crate::spacing::Spacing;
 
 // The most landmarks of a list.
-const MOST_LANDMARKS: usize = 32;
+pub const MOST_LANDMARKS: usize = 32;
 
 // The most words of a list.
-const MOST_WORDS: usize = 64;
+pub const MOST_WORDS: usize = 64;
 
 impl Judge {
     // Before the first record.
@@ -22,9 +22,7 @@ impl Judge {
         ensures { HasJudged result [] }
     {
         Judge {
-            landmarks: 0,
-            words: 0,
-            run_bytes: 0,
+            counts: Counts::default(),
             newest: None,
             spacing: Spacing::none(),
         }
@@ -36,10 +34,10 @@ impl Judge {
         if !matches!(self.newest, None | Some(Sort::Run)) {
             return Err(Refusal::Misplaced);
         }
-        if self.landmarks >= MOST_LANDMARKS {
+        if self.counts.landmarks >= MOST_LANDMARKS {
             return Err(Refusal::TooMany);
         }
-        self.landmarks += 1;
+        self.counts.landmarks += 1;
         self.newest = Some(Sort::Start);
         self.spacing = Spacing::none();
         Ok(())
@@ -55,11 +53,11 @@ impl Judge {
         if self.spacing.is_too_wide() {
             return Err(Refusal::GapTooWide);
         }
-        if self.words >= MOST_WORDS {
+        if self.counts.words >= MOST_WORDS {
             return Err(Refusal::TooMany);
         }
-        self.words += 1;
-        self.run_bytes += bytes.len();
+        self.counts.words += 1;
+        self.counts.run_bytes += bytes.len();
         self.newest = Some(Sort::Run);
         self.spacing = Spacing::none();
         Ok(())
@@ -85,18 +83,7 @@ impl Judge {
         match element {
             Element::Start(_) => self.start(),
             Element::Run(bytes) => self.run(bytes),
-            Element::Gap(gap) => self.operator(Spacing {
-                least: gap.least,
-                greatest: Some(gap.greatest),
-            }),
-            Element::Star => self.operator(Spacing {
-                least: 0,
-                greatest: None,
-            }),
-            Element::Any => self.operator(Spacing {
-                least: 1,
-                greatest: Some(1),
-            }),
+            Element::Gap(_) | Element::Star | Element::Any => self.operator(element.allowance()),
         }
     }
 
@@ -105,15 +92,8 @@ impl Judge {
         ensures { (row : Row) → HasJudged self.now row → result ≡ judged size row ended }
     {
         match self.newest {
-            Some(Sort::Run) => Ok(Counts {
-                landmarks: self.landmarks,
-                words: self.words,
-                run_bytes: self.run_bytes,
-            }),
-            _ => Err(Fault {
-                refusal: Refusal::Misplaced,
-                detail: size,
-            }),
+            Some(Sort::Run) => Ok(self.counts),
+            _ => Err(Refusal::Misplaced.at(size)),
         }
     }
 }

@@ -4,17 +4,21 @@
 mod element;
 mod judge;
 mod judging;
+mod kind;
 mod list;
 mod read;
+mod records;
 mod refusal;
 mod spacing;
 mod word;
 mod write;
 
-pub use element::{Element, Gap, Read, Role};
+pub use element::{Element, Gap, LONGEST_RUN, Read, Role};
+pub use judging::{MOST_LANDMARKS, MOST_WORDS};
 pub use list::{Counts, read_list};
 pub use read::read_element;
+pub use records::Records;
 pub use refusal::{Fault, Layer, Refusal};
 pub use spacing::Spacing;
-pub use word::{Word, next_word};
+pub use word::{ListWords, Word, next_word};
 pub use write::write_element;

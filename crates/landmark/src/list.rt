@@ -4,11 +4,11 @@ ghost use Rattle.landmark.specs.Lists.{list_verdict};
 ghost use Rattle.std.specs.Prelude.{◌≡◌};
 
 use crate::judge::Judge;
-use crate::read::read_element;
+use crate::records::Records;
 use crate::refusal::Fault;
 
 // What a list holds.
-#[derive(Clone, Copy, PartialEq, Eq, Debug)]
+#[derive(Clone, Copy, PartialEq, Eq, Debug, Default)]
 pub struct Counts {
     pub landmarks: usize,
     pub words: usize,
@@ -21,16 +21,11 @@ pub fn read_list(list: &[u8]) -> Result<Counts, Fault>
     ensures law { AcceptedExactly list.now result }
 {
     let mut judge = Judge::new();
-    let mut place = 0;
-    while place < list.len() {
-        let read = read_element(list, place)?;
-        match judge.take(read.element) {
-            Ok(()) => place = read.next,
-            Err(refusal) => return Err(Fault {
-                refusal,
-                detail: place,
-            }),
-        }
+    for read in Records::of(list) {
+        let read = read?;
+        judge
+            .take(read.element)
+            .map_err(|refusal| refusal.at(read.place))?;
     }
     judge.finish(list.len())
 }

@@ -1,4 +1,5 @@
 // The refusals of every layer, with their numbers.
+ghost use Rattle.landmark.specs.Lists.{fault};
 ghost use Rattle.landmark.specs.Refusals.{layer_of, number_of};
 ghost use Rattle.std.specs.Prelude.{◌≡◌};
 
@@ -57,10 +58,21 @@ impl Refusal {
     pub fn layer(self) -> Layer
         ensures { result ≡ layer_of self }
     {
+        // the numbers run through the layers in order, so three ranges are shorter than 24 names
         match self.number() {
             1..=8 => Layer::List,
             9..=11 => Layer::Table,
             _ => Layer::Scan,
+        }
+    }
+
+    // The fault with this refusal and a detail.
+    pub fn at(self, detail: usize) -> Fault
+        ensures { result ≡ fault self detail }
+    {
+        Fault {
+            refusal: self,
+            detail,
         }
     }
 

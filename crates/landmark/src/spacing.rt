@@ -4,7 +4,7 @@ ghost use Rattle.landmark.specs.Spacings.{capped};
 ghost use Rattle.occurrence.specs.Occurrence.{Gap};
 ghost use Rattle.std.specs.Prelude.{◌≡◌};
 
-use crate::read::WIDEST_GAP;
+use crate::element::WIDEST_GAP;
 
 // A sum stands still at the largest number; without a greatest count the gap is open.
 #[derive(Clone, Copy, PartialEq, Eq, Debug)]
@@ -28,13 +28,12 @@ impl Spacing {
     pub fn plus(self, more: Spacing) -> Spacing
         ensures { (g h : Gap) → self ≡ capped g → more ≡ capped h → result ≡ capped (plus g h) }
     {
-        let greatest = match (self.greatest, more.greatest) {
-            (Some(a), Some(b)) => Some(a.saturating_add(b)),
-            _ => None,
-        };
         Spacing {
             least: self.least.saturating_add(more.least),
-            greatest,
+            greatest: self
+                .greatest
+                .zip(more.greatest)
+                .map(|(a, b)| a.saturating_add(b)),
         }
     }
 
@@ -42,10 +41,6 @@ impl Spacing {
     pub(crate) fn is_too_wide(self) -> bool
         ensures { (g : Gap) → self ≡ capped g → result ≡ too_wide g }
     {
-        let exceeds = match self.greatest {
-            Some(greatest) => greatest > WIDEST_GAP,
-            None => false,
-        };
-        self.least > WIDEST_GAP || exceeds
+        self.least > WIDEST_GAP || self.greatest.is_some_and(|greatest| greatest > WIDEST_GAP)
     }
 }

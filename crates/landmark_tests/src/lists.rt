@@ -1,5 +1,5 @@
 // Reading whole lists: the order of records, the sums of gaps, and the limits.
-use landmark::{Fault, read_list};
+use landmark::{ListWords, Records, read_list};
 use std::alloc::{AllocError, Global};
 use std::process::Abort;
 use std::test::Fail;
@@ -27,210 +27,159 @@ fn list_of(heap: Global, letters: &[u8]) -> Result<Vec<u8>, AllocError> {
     Ok(list)
 }
 
-// A list, and what reading it answers: the number and the detail of its fault, or 0 and its words.
+// A list, and what reading it answers: its words, or the number and the detail of its fault.
 struct Case {
     letters: &'static [u8],
-    number: u8,
-    detail: usize,
+    verdict: Result<usize, (u8, usize)>,
 }
 
 const CASES: [Case; 33] = [
     Case {
         letters: b"",
-        number: 5,
-        detail: 0,
+        verdict: Err((5, 0)),
     },
     Case {
         letters: b"x",
-        number: 1,
-        detail: 0,
+        verdict: Err((1, 0)),
     },
     Case {
         letters: b"r",
-        number: 5,
-        detail: 0,
+        verdict: Err((5, 0)),
     },
     Case {
         letters: b"*",
-        number: 5,
-        detail: 0,
+        verdict: Err((5, 0)),
     },
     Case {
         letters: b"E",
-        number: 5,
-        detail: 6,
+        verdict: Err((5, 6)),
     },
     Case {
         letters: b"EE",
-        number: 5,
-        detail: 6,
+        verdict: Err((5, 6)),
     },
     Case {
         letters: b"E*r",
-        number: 5,
-        detail: 6,
+        verdict: Err((5, 6)),
     },
     Case {
         letters: b"E?r",
-        number: 5,
-        detail: 6,
+        verdict: Err((5, 6)),
     },
     Case {
         letters: b"E0r",
-        number: 5,
-        detail: 6,
+        verdict: Err((5, 6)),
     },
     Case {
         letters: b"Er",
-        number: 0,
-        detail: 1,
+        verdict: Ok(1),
     },
     Case {
         letters: b"Err",
-        number: 0,
-        detail: 2,
+        verdict: Ok(2),
     },
     Case {
         letters: b"Er*",
-        number: 5,
-        detail: 15,
+        verdict: Err((5, 15)),
     },
     Case {
         letters: b"Er*E",
-        number: 5,
-        detail: 15,
+        verdict: Err((5, 15)),
     },
     Case {
         letters: b"ErB",
-        number: 5,
-        detail: 17,
+        verdict: Err((5, 17)),
     },
     Case {
         letters: b"ErBs",
-        number: 0,
-        detail: 2,
+        verdict: Ok(2),
     },
     Case {
         letters: b"Erx",
-        number: 1,
-        detail: 11,
+        verdict: Err((1, 11)),
     },
     Case {
         letters: b"Er*r",
-        number: 0,
-        detail: 2,
+        verdict: Ok(2),
     },
     Case {
         letters: b"Erwr",
-        number: 0,
-        detail: 2,
+        verdict: Ok(2),
     },
     Case {
         letters: b"Erw?r",
-        number: 6,
-        detail: 23,
+        verdict: Err((6, 23)),
     },
     Case {
         letters: b"Erw0r",
-        number: 0,
-        detail: 2,
+        verdict: Ok(2),
     },
     Case {
         letters: b"Erv?r",
-        number: 6,
-        detail: 23,
+        verdict: Err((6, 23)),
     },
     Case {
         letters: b"Erv?*r",
-        number: 0,
-        detail: 2,
+        verdict: Ok(2),
     },
     Case {
         letters: b"Er*v?r",
-        number: 0,
-        detail: 2,
+        verdict: Ok(2),
     },
     Case {
         letters: b"Erw*?r",
-        number: 6,
-        detail: 27,
+        verdict: Err((6, 27)),
     },
     Case {
         letters: b"Erw?",
-        number: 5,
-        detail: 23,
+        verdict: Err((5, 23)),
     },
     Case {
         letters: b"Erw?B",
-        number: 5,
-        detail: 23,
+        verdict: Err((5, 23)),
     },
     Case {
         letters: b"Erw?x",
-        number: 1,
-        detail: 23,
+        verdict: Err((1, 23)),
     },
     Case {
         letters: b"Erwrwr",
-        number: 0,
-        detail: 3,
+        verdict: Ok(3),
     },
     Case {
         letters: b"ErErErErErErErErErErErErErErErErErErErErErErErErErErErErErErErEr",
-        number: 0,
-        detail: 32,
+        verdict: Ok(32),
     },
     Case {
         letters: b"ErErErErErErErErErErErErErErErErErErErErErErErErErErErErErErErErEr",
-        number: 7,
-        detail: 352,
+        verdict: Err((7, 352)),
     },
     Case {
         letters: b"ErErErErErErErErErErErErErErErErErErErErErErErErErErErErErErErEr*E",
-        number: 5,
-        detail: 356,
+        verdict: Err((5, 356)),
     },
     Case {
         letters: b"Errrrrrrrrrrrrrrrrrrrrrrrrrrrrrrrrrrrrrrrrrrrrrrrrrrrrrrrrrrrrrrr",
-        number: 0,
-        detail: 64,
+        verdict: Ok(64),
     },
     Case {
         letters: b"Errrrrrrrrrrrrrrrrrrrrrrrrrrrrrrrrrrrrrrrrrrrrrrrrrrrrrrrrrrrrrrrr",
-        number: 7,
-        detail: 326,
+        verdict: Err((7, 326)),
     },
 ];
 
-fn answers(rt: &impl Abort, case: &Case, list: &[u8]) -> Result<(), Fail> {
-    match read_list(list) {
-        Ok(counts) => {
-            assert_eq!(rt;
-                0,
-                case.number,
-                "a list of the table, with {} words",
-                counts.words
-            );
-            assert_eq!(rt; counts.words, case.detail, "a list of the table");
-            Ok(())
-        }
-        Err(fault) => {
-            assert_eq!(rt;
-                fault.refusal.number(),
-                case.number,
-                "a list of the table: {fault}"
-            );
-            assert_eq!(rt; fault.detail, case.detail, "a list of the table: {fault}");
-            Ok(())
-        }
-    }
+fn answers(rt: &impl Abort, case: &Case, list: &[u8]) {
+    let verdict = read_list(list)
+        .map(|counts| counts.words)
+        .map_err(|fault| (fault.refusal.number(), fault.detail));
+    assert_eq!(rt; verdict, case.verdict, "the list {:?}", case.letters);
 }
 
 #[test]
 fn every_list_of_the_table(rt: HostRuntime) -> Result<(), Fail> {
     for case in CASES.iter() {
         let list = list_of(rt.alloc(), case.letters)?;
-        answers(&rt, case, list.as_slice())?;
+        answers(&rt, case, list.as_slice());
     }
     Ok(())
 }
@@ -279,5 +228,30 @@ fn faults_in_plain_words(rt: HostRuntime) -> Result<(), Fail> {
         text.as_str()
             == "5 0: a list begins with a start, a run follows each start, and each landmark ends with a run (at byte 0)"
     );
+    Ok(())
+}
+
+#[test]
+fn records_up_to_the_first_fault(rt: HostRuntime) -> Result<(), Fail> {
+    let list = list_of(rt.alloc(), b"Erxr")?;
+    let mut places = vec![in rt.alloc()]?;
+    for read in Records::of(list.as_slice()) {
+        places.push(
+            read.map(|read| read.place)
+                .map_err(|fault| (fault.refusal.number(), fault.detail)),
+        )?;
+    }
+    assert_eq!(rt; places.as_slice(), [Ok(0), Ok(6), Err((1, 11))].as_slice());
+    assert_eq!(rt; Records::from_place(list.as_slice(), 6).count(), 2);
+    Ok(())
+}
+
+#[test]
+fn words_in_order(rt: HostRuntime) -> Result<(), Fail> {
+    let list = list_of(rt.alloc(), b"Er*sBrx")?;
+    let sizes: Vec<usize> = ListWords::of(list.as_slice())
+        .map(|word| word.len())
+        .collect(rt.alloc())?;
+    assert_eq!(rt; sizes.as_slice(), [1, 64, 1].as_slice());
     Ok(())
 }

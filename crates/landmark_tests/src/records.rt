@@ -1,166 +1,164 @@
 // Reading one element: every refusal at its boundary.
-use landmark::{Element, Role, read_element};
+use landmark::{Element, Refusal, Role, read_element};
 use std::process::Abort;
 use std::test::Fail;
 
-// A record, and the number of its refusal, or 0 where it is read.
+// A record, and whether it is read, or the number of its refusal.
 struct Case {
     record: &'static [u8],
-    number: u8,
+    verdict: Result<(), u8>,
 }
 
 const CASES: [Case; 33] = [
     Case {
         record: b"",
-        number: 1,
+        verdict: Err(1),
     },
     Case {
         record: b"\x04",
-        number: 1,
+        verdict: Err(1),
     },
     Case {
         record: b"\x00\x00",
-        number: 2,
+        verdict: Err(2),
     },
     Case {
         record: b"\x01\x00",
-        number: 1,
+        verdict: Err(1),
     },
     Case {
         record: b"\x01\x00\x04",
-        number: 2,
+        verdict: Err(2),
     },
     Case {
         record: b"\x02\x00",
-        number: 1,
+        verdict: Err(1),
     },
     Case {
         record: b"\x02\x00\x04",
-        number: 1,
+        verdict: Err(1),
     },
     Case {
         record: b"\x02\x00\x04\x00",
-        number: 0,
+        verdict: Ok(()),
     },
     Case {
         record: b"\xff\xff\x04\x00",
-        number: 1,
+        verdict: Err(1),
     },
     Case {
         record: b"\x02\x00\x00\x00",
-        number: 2,
+        verdict: Err(2),
     },
     Case {
         record: b"\x02\x00\x06\x00",
-        number: 2,
+        verdict: Err(2),
     },
     Case {
         record: b"\x02\x00\x10\x00",
-        number: 2,
+        verdict: Err(2),
     },
     Case {
         record: b"\x02\x00\x02\x01",
-        number: 2,
+        verdict: Err(2),
     },
     Case {
         record: b"\x02\x00\x01\x00",
-        number: 3,
+        verdict: Err(3),
     },
     Case {
         record: b"\x03\x00\x01\x00\x01",
-        number: 3,
+        verdict: Err(3),
     },
     Case {
         record: b"\x05\x00\x01\x00\x01\x00\x00",
-        number: 3,
+        verdict: Err(3),
     },
     Case {
         record: b"\x04\x00\x01\x00\x00\x00",
-        number: 4,
+        verdict: Err(4),
     },
     Case {
         record: b"\x04\x00\x01\x00\x03\x00",
-        number: 4,
+        verdict: Err(4),
     },
     Case {
         record: b"\x04\x00\x01\x00\x01\x01",
-        number: 4,
+        verdict: Err(4),
     },
     Case {
         record: b"\x04\x00\x01\x00\x01\x00",
-        number: 0,
+        verdict: Ok(()),
     },
     Case {
         record: b"\x04\x00\x01\x00\x02\x00",
-        number: 0,
+        verdict: Ok(()),
     },
     Case {
         record: b"\x02\x00\x02\x00",
-        number: 3,
+        verdict: Err(3),
     },
     Case {
         record: b"\x03\x00\x02\x00a",
-        number: 0,
+        verdict: Ok(()),
     },
     Case {
         record: b"\x42\x00\x02\x00aaaaaaaaaaaaaaaaaaaaaaaaaaaaaaaaaaaaaaaaaaaaaaaaaaaaaaaaaaaaaaaa",
-        number: 0,
+        verdict: Ok(()),
     },
     Case {
         record: b"\x43\x00\x02\x00aaaaaaaaaaaaaaaaaaaaaaaaaaaaaaaaaaaaaaaaaaaaaaaaaaaaaaaaaaaaaaaaa",
-        number: 3,
+        verdict: Err(3),
     },
     Case {
         record: b"\x05\x00\x03\x00\x00\x00\x00",
-        number: 3,
+        verdict: Err(3),
     },
     Case {
         record: b"\x06\x00\x03\x00\x00\x00\x00\x00",
-        number: 0,
+        verdict: Ok(()),
     },
     Case {
         record: b"\x06\x00\x03\x00\xff\x00\xff\x00",
-        number: 0,
+        verdict: Ok(()),
     },
     Case {
         record: b"\x06\x00\x03\x00\x00\x00\x00\x01",
-        number: 4,
+        verdict: Err(4),
     },
     Case {
         record: b"\x06\x00\x03\x00\x02\x00\x01\x00",
-        number: 4,
+        verdict: Err(4),
     },
     Case {
         record: b"\x03\x00\x04\x00\x00",
-        number: 3,
+        verdict: Err(3),
     },
     Case {
         record: b"\x02\x00\x05\x00",
-        number: 0,
+        verdict: Ok(()),
     },
     Case {
         record: b"\x03\x00\x05\x00\x00",
-        number: 3,
+        verdict: Err(3),
     },
 ];
 
-// The number of the refusal at a place, or 0; a fault's detail is the place.
-fn number_at(rt: &impl Abort, list: &[u8], place: usize) -> Result<u8, Fail> {
-    match read_element(list, place) {
-        Ok(_) => Ok(0),
-        Err(fault) => {
-            assert_eq!(rt; fault.detail, place);
-            Ok(fault.refusal.number())
-        }
-    }
+// Whether an element is read at a place, or the number of the refusal; a fault's detail is the place.
+fn verdict_at(rt: &impl Abort, list: &[u8], place: usize) -> Result<(), u8> {
+    let Err(fault) = read_element(list, place) else {
+        return Ok(());
+    };
+    assert_eq!(rt; fault.detail, place);
+    Err(fault.refusal.number())
 }
 
 #[test]
 fn every_refusal_of_a_record(rt: HostRuntime) -> Result<(), Fail> {
     for case in CASES.iter() {
         assert_eq!(rt;
-            number_at(&rt, case.record, 0)?,
-            case.number,
+            verdict_at(&rt, case.record, 0),
+            case.verdict,
             "a record of the table"
         );
     }
@@ -170,10 +168,10 @@ fn every_refusal_of_a_record(rt: HostRuntime) -> Result<(), Fail> {
 #[test]
 fn places_past_the_end(rt: HostRuntime) -> Result<(), Fail> {
     let list = b"\x02\x00\x04\x00";
-    assert_eq!(rt; number_at(&rt, list, 4)?, 1);
-    assert_eq!(rt; number_at(&rt, list, 3)?, 1);
-    assert_eq!(rt; number_at(&rt, list, 5)?, 1);
-    assert_eq!(rt; number_at(&rt, list, usize::MAX)?, 1);
+    assert_eq!(rt; verdict_at(&rt, list, 4), Err(1));
+    assert_eq!(rt; verdict_at(&rt, list, 3), Err(1));
+    assert_eq!(rt; verdict_at(&rt, list, 5), Err(1));
+    assert_eq!(rt; verdict_at(&rt, list, usize::MAX), Err(1));
     Ok(())
 }
 
@@ -197,5 +195,16 @@ fn elements_with_their_values(rt: HostRuntime) -> Result<(), Fail> {
     };
     assert_eq!(rt; gap.least, 1);
     assert_eq!(rt; gap.greatest, 2);
+    Ok(())
+}
+
+#[test]
+fn roles_by_number_and_name(rt: HostRuntime) -> Result<(), Fail> {
+    assert_eq!(rt; Role::try_from(1u16), Ok(Role::Entry));
+    assert_eq!(rt; Role::try_from(2u16), Ok(Role::Bar));
+    assert_eq!(rt; Role::try_from(0u16), Err(Refusal::BadValue));
+    assert_eq!(rt; Role::try_from(3u16), Err(Refusal::BadValue));
+    let names = format!(in rt.alloc(); "{} {}", Role::Entry, Role::Bar)?;
+    assert!(rt; names.as_str() == "entry bar");
     Ok(())
 }

@@ -17,52 +17,50 @@ fn star<'a>() -> Element<'a> {
     Element::Star
 }
 
-// The place after the record, or 1000 and the number of the refusal; a refusal leaves the buffer as it was.
-fn written(rt: &impl Abort, place: usize, element: Element<'_>) -> Result<usize, Fail> {
+// The place after the record, or the number of the refusal; a refusal leaves the buffer as it was.
+fn written(rt: &impl Abort, place: usize, element: Element<'_>) -> Result<Result<usize, u8>, Fail> {
     let mut buffer = [0x55u8; 80];
     match write_element(&mut buffer, place, element) {
         Ok(next) => {
             let read = read_element(&buffer, place)?;
             assert_eq!(rt; read.next, next);
-            Ok(next)
+            Ok(Ok(next))
         }
         Err(fault) => {
-            for byte in &buffer {
-                assert_eq!(rt; *byte, 0x55);
-            }
+            assert_eq!(rt; buffer, [0x55; 80]);
             assert_eq!(rt; fault.detail, place);
-            Ok(1000 + usize::from(fault.refusal.number()))
+            Ok(Err(fault.refusal.number()))
         }
     }
 }
 
 #[test]
 fn runs_at_their_limits(rt: HostRuntime) -> Result<(), Fail> {
-    assert_eq!(rt; written(&rt, 0, Element::Run(&LONG[0..0]))?, 1003);
-    assert_eq!(rt; written(&rt, 0, Element::Run(&LONG[0..1]))?, 5);
-    assert_eq!(rt; written(&rt, 0, Element::Run(&LONG[0..64]))?, 68);
-    assert_eq!(rt; written(&rt, 0, Element::Run(&LONG[0..65]))?, 1003);
-    assert_eq!(rt; written(&rt, 90, Element::Run(&LONG[0..65]))?, 1003);
+    assert_eq!(rt; written(&rt, 0, Element::Run(&LONG[0..0]))?, Err(3));
+    assert_eq!(rt; written(&rt, 0, Element::Run(&LONG[0..1]))?, Ok(5));
+    assert_eq!(rt; written(&rt, 0, Element::Run(&LONG[0..64]))?, Ok(68));
+    assert_eq!(rt; written(&rt, 0, Element::Run(&LONG[0..65]))?, Err(3));
+    assert_eq!(rt; written(&rt, 90, Element::Run(&LONG[0..65]))?, Err(3));
     Ok(())
 }
 
 #[test]
 fn gaps_at_their_limits(rt: HostRuntime) -> Result<(), Fail> {
-    assert_eq!(rt; written(&rt, 0, gap(0, 0))?, 8);
-    assert_eq!(rt; written(&rt, 0, gap(255, 255))?, 8);
-    assert_eq!(rt; written(&rt, 0, gap(2, 1))?, 1004);
-    assert_eq!(rt; written(&rt, 0, gap(0, 256))?, 1004);
+    assert_eq!(rt; written(&rt, 0, gap(0, 0))?, Ok(8));
+    assert_eq!(rt; written(&rt, 0, gap(255, 255))?, Ok(8));
+    assert_eq!(rt; written(&rt, 0, gap(2, 1))?, Err(4));
+    assert_eq!(rt; written(&rt, 0, gap(0, 256))?, Err(4));
     Ok(())
 }
 
 #[test]
 fn space_at_its_limit(rt: HostRuntime) -> Result<(), Fail> {
-    assert_eq!(rt; written(&rt, 76, star())?, 80);
-    assert_eq!(rt; written(&rt, 77, star())?, 1008);
-    assert_eq!(rt; written(&rt, 74, start(Role::Entry))?, 80);
-    assert_eq!(rt; written(&rt, 75, start(Role::Bar))?, 1008);
-    assert_eq!(rt; written(&rt, 81, star())?, 1008);
-    assert_eq!(rt; written(&rt, usize::MAX, star())?, 1008);
+    assert_eq!(rt; written(&rt, 76, star())?, Ok(80));
+    assert_eq!(rt; written(&rt, 77, star())?, Err(8));
+    assert_eq!(rt; written(&rt, 74, start(Role::Entry))?, Ok(80));
+    assert_eq!(rt; written(&rt, 75, start(Role::Bar))?, Err(8));
+    assert_eq!(rt; written(&rt, 81, star())?, Err(8));
+    assert_eq!(rt; written(&rt, usize::MAX, star())?, Err(8));
     Ok(())
 }
 

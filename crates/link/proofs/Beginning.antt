@@ -1,17 +1,21 @@
 -- Words that begin with a string, and the strings of the words before a word.
-use Rattle.std.proofs.Common.{◌≡◌, ℕ, suc, ◌<◌, ◌≤◌, Bool, true, false, List, [], ◌++◌, length, take, drop, is_some, Some, None, nat_eq, Decides, Option, sym, refl, ap, ◌∙◌, subst, ⊎_elim, arith}
+use Rattle.std.proofs.Common.{◌≡◌, ℕ, zero, suc, ◌+◌, ◌<◌, ◌≤◌, Bool, true, false, Bor, List, [], ◌∷◌, ◌++◌, map, length, get_or, take, drop, is_some, Some, None, nat_eq, Decides, MatchOption, Option, sym, refl, ap, ◌∙◌, subst, ⊎_elim, add-one, arith}
 use Rattle.std.specs.Cmp.Lexicographic.{pointwise}
-use Rattle.std.specs.List.{ContainsAt as Has}
+use Rattle.std.specs.List.{AllWithin, ContainsAt as Has, HoldsAt}
+use Rattle.std.specs.Option.{unwrap_or}
 use Rattle.std.proofs.ByRecursion.{has_get_or}
 use Rattle.std.proofs.lemmas.Slice.Eq.{starts_is}
-use Rattle.std.proofs.lemmas.List.{length-append, length-take, length-take-le, get_or-take, take_at, take-append-drop}
+use Rattle.std.proofs.lemmas.List.{length-append, length-map, length-take, length-take-le, get_or-take, take_at, take-append-drop}
 use Rattle.finder.specs.Words.{word}
+use Rattle.words.specs.Index.{indexed, slices}
+use Rattle.words.specs.declared.words.Words.{Words}
 use Rattle.nodes.specs.Nodes.{strings}
 use Rattle.nodes.specs.Tables.{Begins}
 use Rattle.nodes.proofs.Entering.{shared-only}
-use Rattle.nodes.proofs.Strings.{closed_strings, has_front, strings-are}
+use Rattle.nodes.proofs.Strings.{closed_strings, has_front, has_root, strings-are}
 use Rattle.link.specs.Shape.{BeginsWith, NoneBefore, FirstWith, shared_by}
-use Rattle.std.proofs.lemmas.Bool.Decides.{Decides-eqb}
+use Rattle.std.proofs.lemmas.Bool.{false≢true, true≢false}
+use Rattle.std.proofs.lemmas.Bool.Decides.{Decides-eqb, not_from_Decides}
 
 -- what the test of a front tells
 pub decides_begins : (w s : List ℕ) (r : Bool) → r ≡ pointwise nat_eq s (take (length s) w) → Decides r (BeginsWith w s)
@@ -56,9 +60,65 @@ shared-is ws k d within has ends =
 -- a word that was found before word k makes the string one of the words before it
 pub found_some : (ws : List (List ℕ)) (s : List ℕ) (k : ℕ) (r : Option ℕ) → k ≤ length ws → is_some r ≡ true → FirstWith ws s k r → Has (strings (take k ws)) s
 found_some ws s k (Some i) within is (before, begins, none) = has_earlier ws s k i before (omega arith) begins
-found_some ws s k None within is none = let z : ◌≡◌ {A = ℕ} 0 1 = cc in absurd (omega arith)
+found_some ws s k None within is none = absurd (false≢true is)
 
 -- where none was found there is none
 pub found_none : (ws : List (List ℕ)) (s : List ℕ) (k : ℕ) (r : Option ℕ) → is_some r ≡ false → FirstWith ws s k r → NoneBefore ws s k
-found_none ws s k (Some i) is found = let z : ◌≡◌ {A = ℕ} 0 1 = cc in absurd (omega arith)
+found_none ws s k (Some i) is found = absurd (true≢false is)
 found_none ws s k None is none = none
+
+-- word j of some slices
+pub word_at : (xs : List (Bor (List ℕ))) (j : ℕ) (d : Bor (List ℕ)) → j < length xs → word (map (λ x. x.now) xs) j ≡ (get_or xs j d).now
+word_at [] j d within = absurd (omega arith)
+word_at (x ∷ xs) zero d within = refl
+word_at (x ∷ xs) (suc j) d within = word_at xs j d (omega arith)
+
+-- the slices of an index are its words
+pub items_all : (w : Words) (items : List (Bor (List ℕ))) → items ≡ slices w → length items ≡ length (indexed w)
+items_all w items is = ap length is ∙ sym (length-map (slices w) (λ x. x.now))
+
+pub item_word : (w : Words) (items : List (Bor (List ℕ))) → items ≡ slices w → (j : ℕ) (d : Bor (List ℕ)) → j < length items → (get_or items j d).now ≡ word (indexed w) j
+item_word w items is j d within = ap (λ ys. (get_or ys j d).now) is ∙ sym (word_at (slices w) j d (omega (arith, ap length is)))
+
+-- whether a slice begins with s
+abbrev pub Starts : List ℕ → Bool → Bor (List ℕ) → Type 0
+Starts s r x = pointwise nat_eq s (take (length s) x.now) ≡ r
+
+module _ (xs : List (Bor (List ℕ))) (s : List ℕ) (k : ℕ) (within : k ≤ length (map (λ x. x.now) xs)) where
+  abbrev ws : List (List ℕ)
+  ws = map (λ x. x.now) xs
+
+  fits : k ≤ length xs
+  fits = omega (arith, length-map xs (λ x. x.now))
+
+  here : (j : ℕ) → j < k → word ws j ≡ (get_or (take k xs) j (record { ref_ptr = (0, 0); now = [] })).now
+  here j below = let few = fits in word_at xs j _ (omega arith) ∙ ap (λ (x : Bor (List ℕ)). x.now) (sym (get_or-take k xs j _ below))
+
+  -- the slices up to a place that do not begin with s
+  others : (n : ℕ) → n ≤ k → AllWithin (Starts s false) (take k xs) 0 n → NoneBefore ws s n
+  others n low none j below begins =
+      let e = here j (omega arith) in
+      not_from_Decides _ (decides_begins _ s _ refl) (none j _ (omega arith) below) (subst (λ w. BeginsWith w s) e begins)
+
+  -- what a search among the first slices answers
+  pub first_from_cases : (r : Option ℕ) → MatchOption r (AllWithin (Starts s false) (take k xs) 0 (length (take k xs))) (λ i. (i < length (take k xs)) × HoldsAt (Starts s true) (take k xs) i × AllWithin (Starts s false) (take k xs) 0 i) → FirstWith ws s k r
+  first_from_cases None none = others k (omega arith) (subst (AllWithin (Starts s false) (take k xs) 0) (length-take-le k xs fits) none)
+  first_from_cases (Some i) (below, starts, none) =
+      let low : i < k = omega (arith, length-take-le k xs fits) in
+      (low, subst (λ w. BeginsWith w s) (sym (here i low)) ((decides_begins _ s _ refl).0 (starts _)), others i (omega arith) none)
+
+-- how many first bytes of word k the tests of its fronts find: the first that no word before begins with ends them
+module _ (ws : List (List ℕ)) (k : ℕ) (inside : k < length ws) where
+  -- a search before word k found a front of so many bytes, or none
+  abbrev pub Front : Bool → ℕ → Type 0
+  Front found d = (o : Option ℕ) × FirstWith ws (take (d + 1) (word ws k)) k o × (is_some o ≡ found)
+
+  shares_upto : (d : ℕ) → ((j : ℕ) → 0 ≤ j → j < d → Front true j) → Has (strings (take k ws)) (take d (word ws k))
+  shares_upto zero found = has_root (take k ws)
+  shares_upto (suc d) found =
+      let (o, first, some) = found d (omega arith) (omega arith) in
+      subst (λ n. Has (strings (take k ws)) (take n (word ws k))) (add-one d) (found_some ws _ k o (omega arith) some first)
+
+  pub shared_from_cases : (r : Option ℕ) → MatchOption r ((d : ℕ) → 0 ≤ d → d < length (word ws k) → Front true d) (λ i. (0 ≤ i) × (i < length (word ws k)) × Front false i × ((d : ℕ) → 0 ≤ d → d < i → Front true d)) → unwrap_or r (length (word ws k)) ≡ shared_by ws k
+  shared_from_cases None all = sym (shared-is ws k (length (word ws k)) (omega arith) (shares_upto (length (word ws k)) all) (λ more. absurd (omega arith)))
+  shared_from_cases (Some i) (low, below, (o, first, none), all) = sym (shared-is ws k i (omega arith) (shares_upto i all) (λ more. subst (λ n. NoneBefore ws (take n (word ws k)) k) (add-one i) (found_none ws _ k o none first)))

@@ -2,13 +2,13 @@
 use Rattle.std.proofs.Common.{◌≡◌, ℕ, suc, ◌-◌, ◌<◌, ◌≤◌, Bool, true, false, List, [], ◌∷◌, length, get_or, take, drop, sym, refl, ap, ◌∙◌, subst, ⊎_elim, arith, take-suc}
 use Rattle.std.specs.List.{ContainsAt as Has}
 use Rattle.std.proofs.lemmas.List.{length_push, length-take-le, take-take}
-use Rattle.std.proofs.lemmas.Bool.{both_ways, cases_lt, cases_order}
+use Rattle.std.proofs.lemmas.Bool.{both_ways, cases_lt, cases_order, false_from_ne_true}
 use Rattle.finder.specs.Words.{word}
 use Rattle.nodes.specs.Nodes.{strings, string, last_byte, parent, is_child, lowest, first_child, next_sibling}
 use Rattle.nodes.specs.Tables.{Next}
 use Rattle.nodes.proofs.Children.{child-push, child-root, decides_child, lowest-is, lowest-none}
 use Rattle.nodes.proofs.Entering.{shared-most}
-use Rattle.nodes.proofs.Strings.{fails, front-push, rooted_strings, same-itself}
+use Rattle.nodes.proofs.Strings.{front-push, rooted_strings, same-itself}
 use Rattle.link.specs.Shape.{BeginsWith, Branches, Makes, shared_by, base_of, made_by, branch_of}
 use Rattle.link.proofs.Beginning.{begins_front, front-is, has_earlier}
 use Rattle.link.proofs.Making.{base_all, base_rises, makes_below, makes_node, makes_string, maker}
@@ -85,7 +85,7 @@ module _ (ws : List (List ℕ)) (k d : ℕ) (inside : k < length ws) (within : d
       node = let (made, number) = branch_makes i word-i branch in omega (arith, makes_node ws i (suc d) made)
 
       before : (n : ℕ) → base_of ws (suc k) ≤ n → n < base_of ws i → is_child (take d (word ws k)) (string (strings ws) n) ≡ false
-      before n from below = fails _ (λ child.
+      before n from below = false_from_ne_true _ (λ child.
           let (j, behind, word-j, other, is) = child-branch n from (omega (arith, node)) child in
           none j behind (⊎_elim (λ less. less) (λ past. absurd (omega (arith, base_rises ws i j past (omega arith)))) (cases_lt j i)) other)
 
@@ -93,7 +93,7 @@ module _ (ws : List (List ℕ)) (k d : ℕ) (inside : k < length ws) (within : d
   pub branch_none : ((j : ℕ) → k < j → j < length ws → Branches ws k d j → ⊥) → branch_of ws k d ≡ 0
   branch_none none =
       (lowest-none (strings ws) (is_child (take d (word ws k))) (base_of ws (suc k)) (child-root (strings ws) (take d (word ws k)) (rooted_strings ws))).1
-      (λ n from below. fails _ (λ child. let (j, behind, word-j, other, is) = child-branch n from below child in none j behind word-j other))
+      (λ n from below. false_from_ne_true _ (λ child. let (j, behind, word-j, other, is) = child-branch n from below child in none j behind word-j other))
 
 -- the parent's next child is the next sibling
 next-lowest : (ss : List (List ℕ)) (n : ℕ) (s : List ℕ) → 0 < length s → next_sibling ss n s ≡ lowest (suc n) (drop (suc n) ss) (is_child (parent s))
@@ -133,14 +133,14 @@ module _ (ws : List (List ℕ)) (k d : ℕ) (made : Makes ws k d) where
         from = omega arith;
         within = makes_node ws k (suc d) next;
         passes = ap (is_child s) (makes_string ws k (suc d) next) ∙ child-front (word ws k) d more;
-        before = λ n from less. fails _ (λ child. let (inside, is) = own_child n (omega arith) child in omega arith);
+        before = λ n from less. false_from_ne_true _ (λ child. let (inside, is) = own_child n (omega arith) child in omega arith);
       })
 
   -- where it ends, the first child is that of a word that branches off
   pub first_whole : length (word ws k) ≤ d → first_child (strings ws) (take d (word ws k)) ≡ branch_of ws k d
   first_whole ends =
       lowest-skip (strings ws) (is_child (take d (word ws k))) 0 (base_of ws (suc k)) (omega arith) (root_fails (take d (word ws k)))
-      (λ n from below. fails _ (λ child. let (inside, is) = own_child n below child in omega arith))
+      (λ n from below. false_from_ne_true _ (λ child. let (inside, is) = own_child n below child in omega arith))
 
   -- the next sibling is the first node of a word that branches off one byte before
   pub next-is : next_sibling (strings ws) (made_by ws k d) (take d (word ws k)) ≡ branch_of ws k (d - 1)
@@ -154,7 +154,7 @@ module _ (ws : List (List ℕ)) (k d : ℕ) (made : Makes ws k d) where
       m = made_by ws k d
 
       none : (n : ℕ) → suc (made_by ws k d) ≤ n → n < base_of ws (suc k) → is_child (take (d - 1) (word ws k)) (string (strings ws) n) ≡ false
-      none n from below = fails _ (λ child.
+      none n from below = false_from_ne_true _ (λ child.
           let (j, long, number, at) = child-makes ws (take (d - 1) (word ws k)) (d - 1) n (length-take-le (d - 1) (word ws k) (omega (arith, made.within))) (node_upto n below) child in
           let size : suc (d - 1) ≡ d = omega (arith, made.above) in
           let child-made = subst (Makes ws j) size long in

@@ -1,6 +1,6 @@
 -- Children and back links in a table, as the links are followed.
-use Rattle.std.proofs.Common.{◌≡◌, ℕ, suc, ◌-◌, ◌<◌, ◌≤◌, Bool, true, false, cond, eqb, List, [], ◌∷◌, ◌++◌, length, Some, None, sym, ap, ◌∙◌, subst, ⊎_elim, arith}
-use Rattle.std.proofs.lemmas.Bool.{cases_eq, cases_lt}
+use Rattle.std.proofs.Common.{◌≡◌, ℕ, suc, ◌-◌, ◌<◌, ◌≤◌, true, cond, eqb, List, [], ◌∷◌, ◌++◌, length, Some, None, sym, ap, ◌∙◌, subst, ⊎_elim, arith}
+use Rattle.std.proofs.lemmas.Bool.{both_ways, cases_eq, cases_lt}
 use Rattle.std.proofs.lemmas.Bool.Decides.{nat_tests}
 use Rattle.std.specs.List.{ContainsAt as Has}
 use Rattle.nodes.specs.Nodes.{string, last_byte, is_child, first_child, next_sibling, back_link, back_string, step}
@@ -25,16 +25,13 @@ pub record Passed (ss : List (List ℕ)) (n b c : ℕ) : Type 0 where
   pub child : 0 < c → is_child (string ss n) (string ss c) ≡ true
   pub before : (k : ℕ) → k < length ss → (0 < c → k < c) → is_child (string ss n) (string ss k) ≡ true → last_byte (string ss k) ≡ b → ⊥
 
-untrue : {P : Type 0} (t : Bool) → t ≡ false → t ≡ true → P
-untrue t f e = let z : ◌≡◌ {A = ℕ} 0 1 = cc in absurd (omega arith)
-
 -- the first child from number m on, where those before have another byte
 passed_from : (ss : List (List ℕ)) (n b m r : ℕ) → T.Rooted ss → ((k : ℕ) → k < length ss → k < m → is_child (string ss n) (string ss k) ≡ true → last_byte (string ss k) ≡ b → ⊥) → (r ≡ 0 → T.NoneFrom ss (is_child (string ss n)) m) → (0 < r → T.Next ss (is_child (string ss n)) m r) → Passed ss n b r
 passed_from ss n b m r root earlier none some = record {
   within = ⊎_elim (λ z. subst (λ x. x < length ss) (sym z) root.some) (λ more. (some (omega arith)).within) (cases_eq r 0);
   child = λ h. (some h).passes;
   before = λ k h below is e. ⊎_elim (λ lower. earlier k h lower is e)
-      (λ upper. ⊎_elim (λ z. untrue _ (none z k upper h) is) (λ more. untrue _ ((some (omega arith)).before k upper (below (omega arith))) is) (cases_eq r 0))
+      (λ upper. ⊎_elim (λ z. both_ways _ (none z k upper h) is) (λ more. both_ways _ ((some (omega arith)).before k upper (below (omega arith))) is) (cases_eq r 0))
       (cases_lt k m);
 }
 
@@ -67,15 +64,6 @@ module _ (t : List Node) (ss : List (List ℕ)) (tree : Tree t ss) where
   tree_next n b c some other p =
       subst (Passed ss n b) (sym (tree.next c p.within)) (passed_next ss n b c tree.table.rooted some (λ e. other (tree.byte c p.within ∙ e)) p)
 
-  -- the siblings end
-  pub tree_falls : (n b c : ℕ) → 0 < c → Passed ss n b c → left (length t) (node_at t c).next < left (length t) c
-  tree_falls n b c some p =
-      let next = (node_at t c).next in
-      let within : c < length t = subst (λ m. c < m) (sym tree.size) p.within in
-      let is = tree.next c p.within in
-      let later : 0 < next → c < next = λ h. subst (λ x. c < x) (sym is) (next_sibling-some ss c (string ss n) (string ss c) (p.child some) (subst (λ x. 0 < x) is h)).from in
-      left-falls (length t) next c some within later
-
 -- a child is where its byte leads
 pub child-leads : (ss : List (List ℕ)) (n b c : ℕ) → Child ss n b (Some c) → Leads ss n b c
 child-leads ss n b c (below, is) = (below, is ∙ sym (step-child ss (string ss n) b (subst (Has ss) is (has_string ss c below))))
@@ -98,10 +86,6 @@ module _ (t : List Node) (ss : List (List ℕ)) (tree : Tree t ss) (from b at : 
   -- a child that was found is where the byte leads
   pub found_child : (c : ℕ) → Child ss at b (Some c) → Leads ss from b c
   found_child c child = let (below, is) = child-leads ss at b c child in (below, is ∙ way.leads)
-
-  -- so is where it leads from the root
-  pub found_root : (top : ℕ) → at ≡ 0 → Leads ss 0 b top → Leads ss from b top
-  found_root top z (below, is) = (below, is ∙ ap (λ n. step ss (string ss n) b) (sym z) ∙ way.leads)
 
   -- the back link goes on, and is shorter
   back_here : (node_at t at).back ≡ back_link ss (string ss at)

@@ -1,3 +1,4 @@
+pub mod Walk
 pub mod Following
 pub mod TableLaws
 pub mod Changes

@@ -1,8 +1,8 @@
 -- The nodes that each word makes, by their numbers.
-use Rattle.std.proofs.Common.{◌≡◌, ℕ, zero, suc, ◌+◌, ◌-◌, ◌<◌, ◌≤◌, ◌≢◌, List, [], ◌∷◌, length, get_or, take, set, sum_by, sym, refl, ap, ◌∙◌, subst, ⊎_elim, arith, take-suc, below_more}
+use Rattle.std.proofs.Common.{◌≡◌, ℕ, zero, suc, ◌+◌, ◌-◌, ◌<◌, ◌≤◌, List, [], ◌∷◌, ◌++◌, length, take, sum_by, sym, refl, ap, ◌∙◌, subst, ⊎_elim, arith, take-suc}
 use lib.Seq.{take-length}
 use Rattle.std.specs.List.{ContainsAt as Has}
-use Rattle.std.proofs.lemmas.List.{get_or-set_other, get_or-set_same}
+use Rattle.std.proofs.lemmas.List.{get_or_append_left, get_or_push, length_push}
 use Rattle.std.proofs.lemmas.List.Sums.{sum_by-cons}
 use Rattle.std.proofs.lemmas.Bool.{cases_eq, cases_lt}
 use Rattle.landmark.specs.Grammar.{sizes}
@@ -14,8 +14,8 @@ use Rattle.words.proofs.Placing.{sizes-most}
 use Rattle.nodes.specs.Nodes.{strings, string, number}
 use Rattle.nodes.proofs.Entering.{length-strings, length-strings_push, shared-fronts, shared-small, string-entered}
 use Rattle.nodes.proofs.Strings.{closed_strings, distinct_strings}
-use Rattle.link.specs.Shape.{BeginsWith, NoneBefore, Makes, ShapedBefore, Shaped, shared_by, base_of, made_by}
-use Rattle.link.specs.declared.shape.Shape.{Shape}
+use Rattle.link.specs.Shape.{BeginsWith, NoneBefore, Makes, PartsOf, part_of, shared_by, base_of, made_by}
+use Rattle.link.specs.declared.shape.Part.{Part}
 use Rattle.link.proofs.Beginning.{front-is, none_earlier}
 
 -- a word adds one node for each byte that it does not share
@@ -94,14 +94,13 @@ first_makes ws s i inside some begins none =
     let new : length s ≤ shared_by ws i → ⊥ = λ old. none_earlier ws s i some none (subst (Has older) is (shared-fronts older (closed_strings (take i ws)) (word ws i) (length s) old)) in
     record { inside = inside; above = ⊎_elim (λ above. above) (λ old. absurd (new old)) (cases_lt (shared_by ws i) (length s)); within = short }
 
--- the numbers of one word more
-pub shaped_more : (ws : List (List ℕ)) (shares bases : List ℕ) (k share base : ℕ) → k < length shares → k < length bases → share ≡ shared_by ws k → base ≡ base_of ws k
-    → ShapedBefore ws shares bases k → ShapedBefore ws (set shares k share) (set bases k base) (k + 1)
-shaped_more ws shares bases k share base room also this first before =
-    below_more (λ j. (get_or (set shares k share) j 0 ≡ shared_by ws j) × (get_or (set bases k base) j 0 ≡ base_of ws j)) k
-    (λ j below. let apart : j ≢ k = omega arith in let (old, too) = before j below in (get_or-set_other shares k j share 0 apart ∙ old, get_or-set_other bases k j base 0 apart ∙ too))
-    (get_or-set_same shares k share 0 room ∙ this, get_or-set_same bases k base 0 also ∙ first)
+-- the part of one word more
+pub parts_more : (ws : List (List ℕ)) (parts : List Part) (k : ℕ) → length parts ≡ k → PartsOf ws parts → PartsOf ws (parts ++ (part_of ws k ∷ []))
+parts_more ws parts k size before j d below = ⊎_elim
+    (λ e. rw e (get_or_push parts (part_of ws k) d k size))
+    (λ other. let lower : j < length parts = omega (arith, length_push parts (part_of ws k)) in get_or_append_left parts (part_of ws k ∷ []) d j lower ∙ before j d lower)
+    (cases_eq j k)
 
 -- word k makes a node of each front that is longer than what it shares
-pub makes_from : (ws : List (List ℕ)) (s : Shape) (k parent : ℕ) → Shaped ws s → k < length ws → get_or s.shared k 0 ≤ parent → parent < length (word ws k) → Makes ws k (parent + 1)
-makes_from ws s k parent shaped inside low high = let share = (shaped.each k inside).0 in record { inside = inside; above = omega arith; within = omega arith }
+pub makes_from : (ws : List (List ℕ)) (p : Part) (k parent : ℕ) → p ≡ part_of ws k → k < length ws → p.shared ≤ parent → parent < length (word ws k) → Makes ws k (parent + 1)
+makes_from ws p k parent is inside low high = let share = ap (λ (q : Part). q.shared) is in record { inside = inside; above = omega arith; within = omega arith }

@@ -3,12 +3,12 @@ use Rattle.std.proofs.Common.{◌≡◌, ℕ, ◌*◌, ◌%◌, ◌^◌, ◌<◌
 use lib.Bits.{bit_or}
 use Rattle.std.proofs.lemmas.Nat.{one_shl}
 use Rattle.std.proofs.lemmas.List.{get_or-set_other, get_or-set_same, get_or-take, length-set, length-take}
-use Rattle.std.proofs.lemmas.Bool.{cases_eq, cond-false, cond-true, eq-eqb, ne_eqb}
+use Rattle.std.proofs.lemmas.Bool.{cases_eq, cond-false, cond-true, eq-eqb, false_from_ne_true, ne_eqb}
 use Rattle.finder.specs.Words.{most_words, same}
 use Rattle.finder.proofs.HalfRead.{decides_same}
 use Rattle.nodes.specs.Nodes.{strings, string, own_mask}
 use Rattle.nodes.proofs.Meaning.{own_mask-or, own_mask-push}
-use Rattle.nodes.proofs.Strings.{fails, same-itself, string-one}
+use Rattle.nodes.proofs.Strings.{same-itself, string-one}
 use Rattle.link.specs.Entering.{Holds, Reaches}
 use Rattle.link.specs.Table.{node_at, no_node}
 use Rattle.link.specs.declared.enter.Reached.{Reached}
@@ -63,7 +63,7 @@ module _ (us : List (List ℕ)) (w : List ℕ) (before t : List Node) (r : Reach
   others_are n h other =
       let within = subst (λ m. r.node < m) reaches.front.size reaches.within in
       let distinct = reaches.front.entered.tree.table.distinct in
-      let apart = fails (same w (string ss n)) (λ is. other (string-one ss distinct n r.node h within (sym ((decides_same w (string ss n)).0 is) ∙ sym reaches.node))) in
+      let apart = false_from_ne_true (same w (string ss n)) (λ is. other (string-one ss distinct n r.node h within (sym ((decides_same w (string ss n)).0 is) ∙ sym reaches.node))) in
       omega (arith, own_mask-push us w (string ss n), cond-false _ (2 ^ length us) 0 apart)
 
   mask_is : (n : ℕ) → n < length ss → cond (eqb n r.node) joined (node_at front n).mask ≡ own_mask (us ++ (w ∷ [])) (string ss n)

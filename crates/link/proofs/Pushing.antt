@@ -1,12 +1,12 @@
 -- One child more, behind the other children of a node: which links change.
 use Rattle.std.proofs.Common.{◌≡◌, ℕ, ◌<◌, true, false, List, [], ◌∷◌, ◌++◌, length, sym, ap, ◌∙◌, ⊎_elim, arith}
-use Rattle.std.proofs.lemmas.Bool.{both_ways, cases_eq, cases_order, cond-false, cond-true}
+use Rattle.std.proofs.lemmas.Bool.{both_ways, cases_eq, cases_order, cond-false, cond-true, false_from_ne_true}
 use Rattle.finder.specs.Words.{same}
 use Rattle.finder.proofs.HalfRead.{decides_same}
 use Rattle.nodes.specs.Nodes.{string, parent, is_child, first_child, next_sibling}
 use Rattle.nodes.specs.Tables as T
 use Rattle.nodes.proofs.Children.{child-is, first_child-kept, first_child-none, first_child-push, next_sibling-kept, next_sibling-none, next_sibling-push}
-use Rattle.nodes.proofs.Strings.{fails, same-itself, string-one, string-some}
+use Rattle.nodes.proofs.Strings.{same-itself, string-one, string-some}
 use Rattle.link.specs.Entering.{Behind}
 
 -- node `at` gets one child more, with byte b, behind child `last`
@@ -29,7 +29,7 @@ module _ (ss : List (List ℕ)) (table : T.Table ss) (at b last : ℕ) (within :
       childless z e = ⊎_elim (λ y. y) (λ some. absurd (both_ways _ ((first_child-none ss s table.rooted).0 (ap (λ m. first_child ss (string ss m)) (sym e) ∙ z) last (omega arith) behind.within) (behind.child (omega arith)))) (cases_eq last 0)
 
       apart : first_child ss (string ss n) ≡ 0 → same s (string ss n) ≡ false
-      apart z = fails _ (λ is. let e = string-one ss table.distinct n at below within (sym ((decides_same s (string ss n)).0 is)) in other (childless z e) e)
+      apart z = false_from_ne_true _ (λ is. let e = string-one ss table.distinct n at below within (sym ((decides_same s (string ss n)).0 is)) in other (childless z e) e)
 
       none : first_child ss (string ss n) ≡ 0 → first_child more (string ss n) ≡ first_child ss (string ss n)
       none z = first_child-push ss s b (string ss n) table.rooted z ∙ cond-false _ _ _ (apart z) ∙ sym z
@@ -57,7 +57,7 @@ module _ (ss : List (List ℕ)) (table : T.Table ss) (at b last : ℕ) (within :
   next-other n below other = ⊎_elim none (λ some. next_sibling-kept ss n (s ++ (b ∷ [])) (string ss n) below (omega arith)) (cases_eq (next_sibling ss n (string ss n)) 0)
     where
       apart : next_sibling ss n (string ss n) ≡ 0 → 0 < length (string ss n) → same s (parent (string ss n)) ≡ false
-      apart z some = fails _ (λ is.
+      apart z some = false_from_ne_true _ (λ is.
           let child = child-is s (string ss n) some ∙ (decides_same (parent (string ss n)) s).1 (sym ((decides_same s (parent (string ss n))).0 is)) in
           let (above, e) = the_last n below child z in
           other above e)

@@ -1,9 +1,12 @@
 pub mod Table
+pub mod Children
+pub mod Walking
 pub mod Meaning
 pub mod Entering
 pub mod Backing
 pub mod Building
 pub mod Shape
+pub mod Shaping
 pub mod Comparing
 pub mod Mounting
 pub mod Admitting

@@ -37,6 +37,11 @@ Mounts l table before after (Ok done) =
     (size_fault l (length table) ≡ None) × BeginsRight (words_of l) table × (words_in after ≡ words_of l) × (halves_in after ≡ at_rest (words_of l)) × (after.at ≡ 0)
 Mounts l table before after (Err f) = Refuses l table f × (after ≡ before)
 
+-- a new finder on a list and its table is as one that is mounted on them
+abbrev pub MountsNew : List ℕ → List Node → Result LinkFinder Fault → Type 0
+MountsNew l table (Ok s) = Mounts l table s s (Ok tt)
+MountsNew l table (Err f) = Refuses l table f
+
 -- a table that begins with the one that the words of a good list define is accepted
 abbrev pub AcceptsRight : List ℕ → List Node → Result Unit Fault → Type 0
 AcceptsRight l table r = (counts : Counts) → list_verdict l ≡ Ok counts → counts.run_bytes + 1 ≤ length table → BeginsRight (words_of l) table → r ≡ Ok tt

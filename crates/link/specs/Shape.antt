@@ -1,8 +1,8 @@
 -- How the words make the nodes: what each word shares with those before it, and the numbers of the nodes that it adds.
-use Rattle.std.specs.Prelude.{◌≡◌, ℕ, suc, ◌+◌, ◌-◌, ◌<◌, ◌≤◌, List, ◌++◌, length, take, drop, Some, None, Option, slice_index}
+use Rattle.std.specs.Prelude.{◌≡◌, ℕ, suc, ◌+◌, ◌-◌, ◌<◌, ◌≤◌, List, ◌++◌, length, take, drop, Some, None, Option, slice_index_or}
 use Rattle.finder.specs.Words.{word}
 use Rattle.nodes.specs.Nodes.{strings, shared, lowest, is_child}
-use Rattle.link.specs.declared.shape.Shape.{Shape}
+use Rattle.link.specs.declared.shape.Part.{Part}
 
 -- w is s, then some bytes
 abbrev pub BeginsWith : List ℕ → List ℕ → Type 0
@@ -45,11 +45,16 @@ pub record Branches (ws : List (List ℕ)) (k d j : ℕ) : Type 0 where
 abbrev pub branch_of : List (List ℕ) → ℕ → ℕ → ℕ
 branch_of ws k d = lowest (base_of ws (suc k)) (drop (base_of ws (suc k)) (strings ws)) (is_child (take d (word ws k)))
 
--- a shape has what each word shares and the number of its first node
-abbrev pub ShapedBefore : List (List ℕ) → List ℕ → List ℕ → ℕ → Type 0
-ShapedBefore ws shares bases n = (k : ℕ) → k < n → (slice_index shares k ≡ shared_by ws k) × (slice_index bases k ≡ base_of ws k)
+-- what word k adds to the nodes
+abbrev pub part_of : List (List ℕ) → ℕ → Part
+part_of ws k = record { shared = shared_by ws k; base = base_of ws k }
 
--- of all words, and how many nodes there are
-pub record Shaped (ws : List (List ℕ)) (s : Shape) : Type 0 where
-  pub each : ShapedBefore ws s.shared s.base (length ws)
-  pub nodes : s.nodes ≡ length (strings ws)
+-- the parts of the first words
+abbrev pub PartsOf : List (List ℕ) → List Part → Type 0
+PartsOf ws parts = (k : ℕ) (d : Part) → k < length parts → slice_index_or parts k d ≡ part_of ws k
+
+-- the parts of all words, and how many nodes there are
+pub record Shaped (ws : List (List ℕ)) (parts : List Part) (count : ℕ) : Type 0 where
+  pub each : PartsOf ws parts
+  pub all : length parts ≡ length ws
+  pub nodes : count ≡ length (strings ws)

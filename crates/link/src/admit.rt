@@ -13,10 +13,7 @@ pub(crate) fn admit(list: &[u8], words: &Words<'_>, entries: usize) -> Result<()
     read_list(list)?;
     let needed = words.run_bytes() + 1;
     if entries < needed {
-        return Err(Fault {
-            refusal: Refusal::TableTooSmall,
-            detail: needed,
-        });
+        return Err(Refusal::TableTooSmall.at(needed));
     }
     Ok(())
 }

@@ -2,7 +2,6 @@
 ghost use Rattle.link.specs.Meaning.{halves_begun, halves_in, halves_paired, string_at, words_in};
 ghost use Rattle.words.specs.Sizes.{indexed-few, indexed-sized};
 
-use crate::follow::follow_to_top;
 use crate::link::LinkFinder;
 use finder::Finder;
 
@@ -24,8 +23,7 @@ impl<'a> Finder for LinkFinder<'a> {
     }
 
     fn take(&mut self, b: u8) -> u64 {
-        let top = self.row[b as usize] as usize;
-        self.at = follow_to_top(self.table, self.at, b, top);
+        self.at = self.next_node(b);
         self.table[self.at].mask
     }
 

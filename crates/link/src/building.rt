@@ -1,24 +1,26 @@
 // Building a table in one call.
-ghost use Rattle.std.specs.Prelude.{◌≡◌, ◌<◌, ◌++◌, length, drop, sum_by};
+ghost use Rattle.std.specs.Prelude.{◌≡◌, ℕ, ◌<◌, List, ◌++◌, length, drop, sum_by};
 ghost use Rattle.link.specs.Building.{Builds};
 ghost use Rattle.link.specs.Table.{table_of};
 ghost use Rattle.nodes.specs.Nodes.{strings};
+ghost use Rattle.words.specs.Index.{indexed};
 
 use crate::admit::admit;
 use crate::back::link_back;
 use crate::enter::enter_words;
 use crate::node::Node;
-use crate::source::Source;
 use landmark::Fault;
 use words::Words;
 
 // Writes the table of the words in front, and answers how many entries are in use. The others are left as they were.
-pub(crate) fn fill<S: Source>(table: &mut [Node], source: &S) -> usize
-    requires { sum_by length (S.Source.entered source.now) < length table.old }
-    ensures count { result ≡ length (strings (S.Source.entered source.now)) }
-    ensures nodes { table.new ≡ table_of (S.Source.entered source.now) ++ drop result table.old }
+pub(crate) fn fill(table: &mut [Node], words: &Words<'_>) -> usize
+    ghost ws: { List (List ℕ) }
+    requires entered { ws ≡ indexed words.now }
+    requires room { sum_by length ws < length table.old }
+    ensures count { result ≡ length (strings ws) }
+    ensures nodes { table.new ≡ table_of ws ++ drop result table.old }
 {
-    let count = enter_words(table, source);
+    let count = enter_words(table, words);
     link_back(&mut table[..count]);
     count
 }

@@ -1,10 +1,11 @@
 // Entering words: the nodes of their prefixes, with children and siblings.
-ghost use Rattle.std.specs.Prelude.{ℕ, ◌+◌, ◌<◌, List, [], ◌∷◌, ◌++◌, length, take, sum_by};
-ghost use Rattle.link.specs.Entering.{Behind, CanGrow, Holds, Reaches};
-ghost use Rattle.link.specs.Table.{Tree};
+ghost use Rattle.std.specs.Prelude.{◌≡◌, ℕ, ◌+◌, ◌<◌, List, [], ◌∷◌, ◌++◌, length, take, sum_by};
+ghost use Rattle.link.specs.Children.{Chained, last_child};
+ghost use Rattle.link.specs.Entering.{CanGrow, Holds, Reaches};
 ghost use Rattle.nodes.specs.Nodes.{strings};
 ghost use Rattle.std.specs.List.{ContainsAt as Has};
 
+use crate::children::Children;
 use crate::follow::child_of;
 use crate::node::Node;
 use crate::source::Source;
@@ -16,19 +17,15 @@ pub(crate) struct Reached {
     pub(crate) count: usize,
 }
 
-// The last child of a node, 0 where it has none.
-pub(crate) fn last_child(table: &[Node], at: usize) -> usize
-    requires tree { (ss : List (List ℕ)) × Tree table.now ss }
+// The last child of a node.
+pub(crate) fn last_child(table: &[Node], at: usize) -> Option<usize>
+    requires chained { Chained table.now }
     requires within { at < length table.now }
-    ensures { (ss : List (List ℕ)) → Tree table.now ss → Behind ss at result 0 }
+    ensures { result ≡ last_child table.now at }
 {
-    let mut last = 0;
-    let mut child = table[at].first as usize;
-    while child != 0 {
-        last = child;
-        child = table[child].next as usize;
-    }
-    last
+    Children::of(table, at)
+        .last()
+        .map(|(child, _)| child as usize)
 }
 
 // Writes the next node, as the last child of the node reached.
@@ -37,19 +34,14 @@ pub(crate) fn add_child(table: &mut [Node], from: Reached, symbol: u8)
     ensures { (us : List (List ℕ)) (v : List ℕ) (before : List Node) → Reaches us v before table.old from → (Has (strings (us ++ (v ∷ []))) (v ++ (symbol ∷ [])) → ⊥)
         → Reaches us (v ++ (symbol ∷ [])) before table.new (record { node = from.count; count = from.count + 1 }) }
 {
-    let last = last_child(&table[..from.count], from.node);
-    if last == 0 {
-        table[from.node].first = from.count as u16;
-    } else {
-        table[last].next = from.count as u16;
+    match last_child(&table[..from.count], from.node) {
+        None => table[from.node].first = from.count as u16,
+        Some(last) => table[last].next = from.count as u16,
     }
     table[from.count] = Node {
         depth: table[from.node].depth + 1,
         byte: symbol,
-        first: 0,
-        next: 0,
-        back: 0,
-        mask: 0,
+        ..Node::ROOT
     };
 }
 
@@ -59,10 +51,7 @@ pub(crate) fn enter_symbol(table: &mut [Node], from: Reached, symbol: u8) -> Rea
     ensures { (us : List (List ℕ)) (v : List ℕ) (before : List Node) → Reaches us v before table.old from → Reaches us (v ++ (symbol ∷ [])) before table.new result }
 {
     if let Some(node) = child_of(&table[..from.count], from.node, symbol) {
-        return Reached {
-            node,
-            count: from.count,
-        };
+        return Reached { node, ..from };
     }
     add_child(table, from, symbol);
     Reached {
@@ -79,6 +68,7 @@ pub(crate) fn enter_word<S: Source>(table: &mut [Node], count: usize, source: &S
     ensures { (before : List Node) → Holds (take k (S.Source.entered source.now)) count before table.old → Holds (take (k + 1) (S.Source.entered source.now)) result before table.new }
 {
     let mut reached = Reached { node: 0, count };
+    // By number: the rules want one text for any alphabet, and the symbols of another one lie in no slice.
     for i in 0..source.length_of(k) {
         reached = enter_symbol(table, reached, source.symbol(k, i));
     }
@@ -91,15 +81,9 @@ pub(crate) fn enter_words<S: Source>(table: &mut [Node], source: &S) -> usize
     requires { sum_by length (S.Source.entered source.now) < length table.old }
     ensures { Holds (S.Source.entered source.now) result table.old table.new }
 {
-    table[0] = Node {
-        depth: 0,
-        byte: 0,
-        first: 0,
-        next: 0,
-        back: 0,
-        mask: 0,
-    };
+    table[0] = Node::ROOT;
     let mut count = 1;
+    // By number, as the symbols of a word are.
     for k in 0..source.count() {
         count = enter_word(table, count, source, k);
     }

@@ -5,6 +5,7 @@ mod admit;
 mod as_finder;
 mod back;
 mod building;
+mod children;
 mod compare;
 mod enter;
 mod expect;

@@ -2,7 +2,7 @@
 use Rattle.std.proofs.Common.{◌≡◌, ℕ, zero, suc, ◌+◌, ◌-◌, ◌<◌, ◌≤◌, Bool, true, false, cond, ◌⊎◌, List, [], ◌∷◌, ◌++◌, length, drop, Decides, sym, refl, ap, ◌∙◌, subst, inl, inr, ⊎_elim, arith}
 use Rattle.std.specs.List.{ContainsAt as Has}
 use Rattle.std.proofs.lemmas.List.{length_push, length-drop, get_or-drop, drop-append-le, drop_all}
-use Rattle.std.proofs.lemmas.Bool.{cases_Bool, cond_both, cond-false, false≢true, true≢false}
+use Rattle.std.proofs.lemmas.Bool.{cases_Bool, cond_both, cond-false, false_from_ne_true, false≢true, true≢false}
 use Rattle.std.proofs.lemmas.Bool.Decides.{Decides-like}
 use Rattle.finder.specs.Words.{same}
 use Rattle.finder.specs.Meaning.{ExactlyIf}
@@ -10,7 +10,7 @@ use Rattle.finder.proofs.HalfRead.{decides_same}
 use Rattle.nodes.specs.Nodes.{string, parent, last_byte, is_child, lowest, first_child, next_sibling}
 use Rattle.nodes.specs.Tables.{Rooted, Closed, NoneFrom, Next, Answers}
 use Rattle.nodes.proofs.Suffixes.{parent-push, last_push, parent-last}
-use Rattle.nodes.proofs.Strings.{fails, same-itself, has_string}
+use Rattle.nodes.proofs.Strings.{same-itself, has_string}
 
 -- what fails at the first string and at those behind fails at all
 fails_cons : (f : List ℕ → Bool) (t : List ℕ) (ts : List (List ℕ)) (m : ℕ) → f t ≡ false → ((k : ℕ) → k < m → f (string ts k) ≡ false) → (k : ℕ) → k < suc m → f (string (t ∷ ts) k) ≡ false
@@ -59,10 +59,6 @@ decides_child s [] = (λ e. absurd (false≢true e), λ e. absurd (omega (arith,
 decides_child s (b ∷ t) =
     let last = last_byte (b ∷ t) in
     Decides-like _ (λ is. parent-last (b ∷ t) (omega arith) ∙ ap (λ u. u ++ (last ∷ [])) is) (λ is. ap parent is ∙ parent-push s last) (decides_same (parent (b ∷ t)) s)
-
--- two children of one string with the same last byte are one
-pub same-child : (s t u : List ℕ) → is_child s t ≡ true → is_child s u ≡ true → last_byte t ≡ last_byte u → t ≡ u
-same-child s t u this other last = (decides_child s t).0 this ∙ ap (λ b. s ++ (b ∷ [])) last ∙ sym ((decides_child s u).0 other)
 
 -- a string of some bytes is a child of its parent alone
 pub child-is : (s t : List ℕ) → 0 < length t → is_child s t ≡ same (parent t) s
@@ -146,10 +142,6 @@ next_sibling-push ss n s b (c ∷ u) rooted within some none =
     let p = parent (c ∷ u) in
     lowest-push ss (is_child p) (suc n) (s ++ (b ∷ [])) within ((lowest-none ss (is_child p) (suc n) (child-root ss p rooted)).0 none) ∙ ap (λ t. cond t (length ss) 0) (child-push p s b)
 
--- the root has no sibling
-pub next_sibling-root : (ss : List (List ℕ)) (n : ℕ) → next_sibling ss n [] ≡ 0
-next_sibling-root ss n = refl
-
 -- nor has the last string a next one
 pub next_sibling-last : (ss : List (List ℕ)) (n : ℕ) (u : List ℕ) → length ss ≤ suc n → next_sibling ss n u ≡ 0
 next_sibling-last ss n [] past = refl
@@ -157,13 +149,13 @@ next_sibling-last ss n (c ∷ u) past = ap (λ ts. lowest (suc n) ts (is_child (
 
 -- a string that is not among closed ones has no child among them
 pub childless : (ss : List (List ℕ)) (t : List ℕ) → Closed ss → (Has ss t → ⊥) → NoneFrom ss (is_child t) 0
-childless ss t closed not k from below = fails _ (λ child. not (closed.shorter t _ (subst (Has ss) ((decides_child t (string ss k)).0 child) (has_string ss k below))))
+childless ss t closed not k from below = false_from_ne_true _ (λ child. not (closed.shorter t _ (subst (Has ss) ((decides_child t (string ss k)).0 child) (has_string ss k below))))
 
 -- so a new node has no first child
 pub first_child-new : (ss : List (List ℕ)) (s : List ℕ) (b : ℕ) → Rooted ss → Closed ss → (Has ss (s ++ (b ∷ [])) → ⊥) → first_child (ss ++ ((s ++ (b ∷ [])) ∷ [])) (s ++ (b ∷ [])) ≡ 0
 first_child-new ss s b rooted closed not =
     let t = s ++ (b ∷ []) in
-    let apart = fails (same s t) (λ e. omega (arith, length_push s b, ap length ((decides_same s t).0 e))) in
+    let apart = false_from_ne_true (same s t) (λ e. omega (arith, length_push s b, ap length ((decides_same s t).0 e))) in
     first_child-push ss s b t rooted ((first_child-none ss t rooted).1 (childless ss t closed not)) ∙ cond-false _ _ _ apart
 
 -- and no next sibling

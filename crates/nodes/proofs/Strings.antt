@@ -1,9 +1,9 @@
 -- The strings of the nodes: which they are, in which order they stand, and at which numbers.
-use Rattle.std.proofs.Common.{◌≡◌, ℕ, zero, suc, ◌+◌, ◌<◌, ◌≤◌, Bool, true, false, cond, ◌⊎◌, List, [], ◌∷◌, ◌++◌, length, get_or, take, Decides, sym, refl, ap, ◌∙◌, subst, inl, inr, ⊎_elim, arith}
+use Rattle.std.proofs.Common.{◌≡◌, ℕ, zero, suc, ◌+◌, ◌<◌, ◌≤◌, true, false, cond, ◌⊎◌, List, [], ◌∷◌, ◌++◌, length, get_or, take, Decides, sym, refl, ap, ◌∙◌, subst, inl, inr, ⊎_elim, arith}
 use Rattle.std.specs.List.{ContainsAt as Has, flat_map, AllByRecursion}
 use Rattle.std.proofs.lemmas.List.{length-map, length-take, nil_from_length, get_or-map, take_at, take_all, take-take, same_from_push, get_or_append_left, get_or_push, length_push}
 use Rattle.std.proofs.ByRecursion.{has_get_or, has_append_left, has_append_right, has_push, has_push_cases, all-has, all_has_itself, All-append, All-push, All-weaker, All-from_get_or}
-use Rattle.std.proofs.lemmas.Bool.{cases_Bool, cases_lt, or_parts, cond_both, cond-true, cond-false, false≢true}
+use Rattle.std.proofs.lemmas.Bool.{cases_Bool, cases_lt, or_parts, cond_both, cond-true, cond-false, false_from_ne_true, false≢true}
 use Rattle.std.proofs.lemmas.Bool.Decides.{Decides-by_or, not_from_Decides}
 use Rattle.finder.specs.Words.{same, word}
 use Rattle.finder.specs.Meaning.{ExactlyIf}
@@ -15,18 +15,9 @@ use Rattle.nodes.specs.Tables.{Rooted, Distinct, Closed, Table, Begins}
 pub decides_among : (ss : List (List ℕ)) (s : List ℕ) → Decides (among ss s) (Has ss s)
 decides_among ss s = Decides-by_or (λ t. same t s) (λ t. t ≡ s) (λ ts. among ts s) (λ t. decides_same t s) refl (λ _ _. refl) ss
 
--- a string is among these, or it is not
-pub cases_has : (ss : List (List ℕ)) (s : List ℕ) → Has ss s ⊎ (Has ss s → ⊥)
-cases_has ss s = ⊎_elim (λ e. inl ((decides_among ss s).0 e)) (λ e. inr (not_from_Decides _ (decides_among ss s) e)) (cases_Bool (among ss s))
-
--- a test that cannot pass fails
-pub fails : (t : Bool) → (t ≡ true → ⊥) → t ≡ false
-fails true not = absurd (not refl)
-fails false not = refl
-
 -- so a string that is not among these fails the test
 pub among_none : (ss : List (List ℕ)) (s : List ℕ) → (Has ss s → ⊥) → among ss s ≡ false
-among_none ss s not = fails _ (λ e. not ((decides_among ss s).0 e))
+among_none ss s not = false_from_ne_true _ (λ e. not ((decides_among ss s).0 e))
 
 -- a string is the same as itself
 pub same-itself : (s : List ℕ) → same s s ≡ true

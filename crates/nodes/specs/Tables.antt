@@ -24,12 +24,6 @@ pub record Table (ss : List (List ℕ)) : Type 0 where
   pub distinct : Distinct ss
   pub closed : Closed ss
 
--- a word that is entered up to its first n bytes: those are there, and no more of it
-pub record Entered (ss : List (List ℕ)) (w : List ℕ) (n : ℕ) : Type 0 where
-  pub table : Table ss
-  pub there : Has ss (take n w)
-  pub new : (d : ℕ) → n < d → d ≤ length w → Has ss (take d w) → ⊥
-
 -- the string is the first bytes of a word, at least one
 abbrev pub Begins : List (List ℕ) → List ℕ → Type 0
 Begins ws s = (w : List ℕ) × (d : ℕ) × Has ws w × (1 ≤ d) × (d ≤ length w) × (s ≡ take d w)

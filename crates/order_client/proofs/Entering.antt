@@ -1,6 +1,8 @@
 -- Carrying out an order that was just issued.
-use Rattle.std.proofs.Common.{◌≡◌, ℕ, Bool, true, not, List, Some, None, Ok, Err, Result, sym, refl, ap, ◌∙◌, subst, arith}
+use Rattle.std.proofs.Common.{◌≡◌, ℕ, Bool, true, not, Some, None, Ok, Err, Result, IsOk, sym, refl, ap, ◌∙◌, subst, arith}
+use Rattle.std.specs.Result.{is_ok}
 use Rattle.std.proofs.lemmas.Bool.Decides.{nat_tests}
+use Rattle.finder.specs.declared.finder.Finder.{Ghosts}
 use Rattle.landmark.specs.declared.refusal.Fault.{Fault}
 use Rattle.landmark.specs.declared.refusal.Refusal.TheVariants.{OtherOrder}
 use Rattle.scan.specs.Rules.{Line, line, refusal, end_at, issue_refusal, settle_refusal, same_numbers}
@@ -17,39 +19,39 @@ use Rattle.order_client.specs.Entering.{Entered}
 own_order : (n : Numbers) → settle_refusal (Some n) n ≡ None
 own_order n = let same : same_numbers (Some n) n ≡ true = grind (arith, nat_tests) in ap (λ (b : Bool). line (not b) OtherOrder n.entry) same
 
-module _ {F : Type 0} (words halves : F → List (List ℕ)) (s t : Scan F) (k : ℕ) (r : Result Order Fault) (issued : Issued words halves s k r t) where
+module _ {F : Type 0} (finder : Ghosts F) (s t : Scan F) (k : ℕ) (r : Result Order Fault) (issued : Issued finder s k r t) where
   -- what issuing says of an order
   abbrev Told : Order → Type 0
-  Told o = (o.numbers.landmark ≡ k) × (end_at (own_facts words halves s) k ≡ Some o.numbers.entry) × (t ≡ with_out words halves (Some o.numbers) s)
+  Told o = (o.numbers.landmark ≡ k) × (end_at (own_facts s) k ≡ Some o.numbers.entry) × (t ≡ with_out (Some o.numbers) s)
 
-  line-is : issue_refusal s.out (own_facts words halves s) k ≡ refusal r
+  line-is : issue_refusal s.out (own_facts s) k ≡ refusal r
   line-is = sym (upon_refusal _ r _ s t issued.always)
 
   -- a refusal is passed on
-  pub refused : (f : Fault) → r ≡ Err f → Entered words halves s k (Err f) t
+  pub refused : (f : Fault) → r ≡ Err f → Entered s k (Err f) t
   refused f is =
       let why = line-is ∙ ap refusal is in
       let kept = (subst (λ (l : Line). Upon l r Told s t) why issued.always).1 in
-      subst (λ (l : Line). Upon l (Err f) (λ e. (end_at (own_facts words halves s) k ≡ Some e) × (t ≡ with_out words halves None s)) s t) (sym why) (refl, kept)
+      subst (λ (l : Line). Upon l (Err f) (λ e. (end_at (own_facts s) k ≡ Some e) × (t ≡ with_out None s)) s t) (sym why) (refl, kept)
 
-  module _ (u : Scan F) (o : Order) (q : Result ℕ Returned) (is : r ≡ Ok o) (carried : CarriedOut words halves t o q u) where
-    free : issue_refusal s.out (own_facts words halves s) k ≡ None
+  module _ (u : Scan F) (o : Order) (q : Result ℕ Returned) (is : r ≡ Ok o) (carried : CarriedOut finder t o q u) where
+    free : issue_refusal s.out (own_facts s) k ≡ None
     free = line-is ∙ ap refusal is
 
     told : Told o
     told = subst (λ (x : Result Order Fault). Upon None x Told s t) is (subst (λ (l : Line). Upon l r Told s t) free issued.always)
 
-    settled : (q ≡ Ok o.numbers.entry) × (u ≡ with_out words halves None t)
+    settled : (q ≡ Ok o.numbers.entry) × (u ≡ with_out None t)
     settled =
         let own : settle_refusal t.out o.numbers ≡ None = ap (λ (x : Scan F). settle_refusal x.out o.numbers) told.2 ∙ own_order o.numbers in
-        subst (λ (l : Line). Settled l o o.numbers.entry q (u ≡ with_out words halves None t) t u) own carried.always
+        subst (λ (l : Line). Settled l o o.numbers.entry q (u ≡ with_out None t) t u) own carried.always
 
     -- the order is accepted
-    pub not_back : {X : Type 0} (back : Returned) → q ≡ Err back → X
-    not_back back refused = let accepted = settled.0 in let z : ◌≡◌ {A = ℕ} 0 1 = cc in absurd (omega arith)
+    pub accepted : IsOk q
+    accepted = ap is_ok settled.0
 
-    pub entered : (e : ℕ) → q ≡ Ok e → Entered words halves s k (Ok e) u
+    pub entered : (e : ℕ) → q ≡ Ok e → Entered s k (Ok e) u
     entered e answer =
         let accepted = settled.0 in
         let same : o.numbers.entry ≡ e = cc in
-        answered _ _ _ s u free (told.1 ∙ ap Some same, settled.1 ∙ ap (with_out words halves None) told.2)
+        answered _ _ _ s u free (told.1 ∙ ap Some same, settled.1 ∙ ap (with_out None) told.2)

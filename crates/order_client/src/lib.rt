@@ -9,11 +9,8 @@ use scan::Scan;
 
 // Enters by a landmark: answers the entry, or why no order is issued.
 pub fn enter<F: Finder>(scan: &mut Scan<F>, landmark: usize) -> Result<usize, Fault>
-    ensures { Entered F.Finder.words F.Finder.halves scan.old landmark result scan.new }
+    ensures { Entered scan.old landmark result scan.new }
 {
     let order = scan.issue(landmark)?;
-    match scan.carry_out(order) {
-        Ok(entry) => Ok(entry),
-        Err(_) => unreachable(),
-    }
+    Ok(scan.carry_out(order).unwrap())
 }

@@ -1,3 +1,2 @@
 pub mod ReadingLaws
-pub mod Asking
 pub mod SeatLaws

@@ -39,7 +39,7 @@ pub record Stands (m : ℕ) (ms : List Landmark) (k : ℕ) (s : Seat) : Type 0 w
 
 -- the first seat of landmarks has index 0
 first_seat : (m : ℕ) (ms : List Landmark) (t : Seat) → slice_get (seats m ms) 0 ≡ Some t → t.index ≡ 0
-first_seat m [] t e = let z : ◌≡◌ {A = ℕ} 0 1 = cc in absurd (omega arith)
+first_seat m [] t e = absurd (cc)
 first_seat m (x ∷ xs) t e = let is : record { landmark = m; pattern = pattern_of x; index = 0 } ≡ t = cc in ap (λ (u : Seat). u.index) (sym is)
 
 -- the seats of a landmark's own words, and those of the words behind it
@@ -60,7 +60,7 @@ module _ (m : ℕ) (x : Landmark) (xs : List Landmark) where
       ⊎_elim (λ here. inl (here, cc (own_seat k here))) (λ past. inr (past, sym (later_seat (k - suc (more_words (pattern_of x))) k (omega arith)) ∙ e)) (cases_lt k (suc (more_words (pattern_of x))))
 
 pub stands : (m : ℕ) (ms : List Landmark) (k : ℕ) (s : Seat) → slice_get (seats m ms) k ≡ Some s → Stands m ms k s
-stands m [] k s e = let z : ◌≡◌ {A = ℕ} 0 1 = cc in absurd (omega arith)
+stands m [] k s e = absurd (cc)
 stands m (x ∷ xs) k s e =
     ⊎_elim
     (λ (here, is). subst (λ (u : Seat). Stands m (x ∷ xs) k u) is (record {
@@ -88,7 +88,7 @@ stands m (x ∷ xs) k s e =
 
 -- a word is told by its landmark and its index there
 pub one_seat : (m : ℕ) (ms : List Landmark) (k i : ℕ) (s t : Seat) → slice_get (seats m ms) k ≡ Some s → slice_get (seats m ms) i ≡ Some t → s.landmark ≡ t.landmark → s.index ≡ t.index → k ≡ i
-one_seat m [] k i s t at-k at_i same-landmark same_index = let z : ◌≡◌ {A = ℕ} 0 1 = cc in absurd (omega arith)
+one_seat m [] k i s t at-k at_i same-landmark same_index = absurd (cc)
 one_seat m (x ∷ xs) k i s t at-k at_i same-landmark same_index =
     ⊎_elim
     (λ (_, is-s). ⊎_elim
@@ -103,7 +103,7 @@ one_seat m (x ∷ xs) k i s t at-k at_i same-landmark same_index =
 
 -- every landmark has a last word
 pub last_seat : (m : ℕ) (ms : List Landmark) (i : ℕ) (x : Landmark) → slice_get ms i ≡ Some x → (k : ℕ) × (slice_get (seats m ms) k ≡ Some (record { landmark = m + i; pattern = pattern_of x; index = more_words (pattern_of x) }))
-last_seat m [] i x e = let z : ◌≡◌ {A = ℕ} 0 1 = cc in absurd (omega arith)
+last_seat m [] i x e = absurd (cc)
 last_seat m (y ∷ ys) zero x e =
     let is : y ≡ x = cc in
     let last : Landmark → ℕ → Seat = λ z n. record { landmark = n; pattern = pattern_of z; index = more_words (pattern_of z) } in
@@ -123,7 +123,7 @@ chain-word (s ∷ t ∷ ss) (suc j) h = chain-word (t ∷ ss) j (omega arith)
 
 -- the word of a seat is the list's word of that number
 pub seat_word : (m : ℕ) (ms : List Landmark) (k : ℕ) (s : Seat) → AllByRecursion GoodLandmark ms → slice_get (seats m ms) k ≡ Some s → slice_get (all_words ms) k ≡ Some (nth_word s.pattern s.index)
-seat_word m [] k s good e = let z : ◌≡◌ {A = ℕ} 0 1 = cc in absurd (omega arith)
+seat_word m [] k s good e = absurd (cc)
 seat_word m (x ∷ xs) k s (good, goods) e =
     let n = suc (more_words (pattern_of x)) in
     let size : length (words_of_landmark x) ≡ n = length-map x.steps (λ (t : Step). t.word) ∙ sym (landmark_size x.steps good.begins) in

@@ -1,5 +1,5 @@
 // Asking a plan.
-ghost use Rattle.plan.specs.Seats.{roles_of, spots_of};
+ghost use Rattle.plan.specs.Seats.{landmarks_in, roles_of, spots_of};
 ghost use Rattle.std.specs.List.{slice_get};
 ghost use Rattle.std.specs.Prelude.{◌≡◌};
 
@@ -9,28 +9,22 @@ use landmark::Role;
 impl Plan {
     // How many landmarks there are.
     pub fn landmarks(&self) -> usize
-        ensures { result ≡ self.now.landmarks }
+        ensures { result ≡ landmarks_in self.now }
     {
-        self.landmarks
+        self.roles.count
     }
 
     // The role of a landmark, where there is such.
     pub fn role(&self, landmark: usize) -> Option<Role>
         ensures { result ≡ slice_get (roles_of self.now) landmark }
     {
-        if landmark >= self.landmarks {
-            return None;
-        }
-        Some(self.roles[landmark])
+        self.roles.get(landmark)
     }
 
     // The spot of a word, where there is such.
     pub fn spot(&self, word: usize) -> Option<Spot>
         ensures { result ≡ slice_get (spots_of self.now) word }
     {
-        if word >= self.words {
-            return None;
-        }
-        Some(self.spots[word])
+        self.spots.get(word)
     }
 }

@@ -4,5 +4,6 @@
 mod ask;
 mod plan;
 mod read;
+mod row;
 
-pub use plan::{Front, Plan, Spot};
+pub use plan::{Plan, Spot};

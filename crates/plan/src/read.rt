@@ -2,100 +2,48 @@
 ghost use Rattle.std.specs.Prelude.{◌≡◌, ◌≤◌, List, [], ◌∷◌, Option as Maybe};
 ghost use Rattle.landmark.specs.Grammar.{Landmark};
 ghost use Rattle.landmark.specs.Records.{Item, item};
-ghost use Rattle.landmark.specs.Spacings.{capped};
-ghost use Rattle.occurrence.specs.Occurrence.{Gap as Gap-between};
-ghost use Rattle.plan.specs.Reading.{AddsLandmark, AddsWord, Plans, Small, SoFar, front_so_far, with_gap};
+ghost use Rattle.plan.specs.Reading.{Plans, Small, SoFar};
 ghost use Rattle.plan.specs.Seats.{PlanOf};
 
-use crate::plan::{Front, Plan, Spot};
-use landmark::{Element, Fault, Role, Spacing, read_element, read_list};
-
-// What lies in front of the next word, with one more operator in it.
-fn widened(front: Front, more: Spacing) -> Front
-    ensures { (g : Maybe Gap-between) (h : Gap-between) → front ≡ front_so_far g → more ≡ capped h → result ≡ front_so_far (with_gap g h) }
-{
-    match front {
-        Front::First => Front::First,
-        Front::Behind(spacing) => Front::Behind(spacing.plus(more)),
-    }
-}
+use crate::plan::{Plan, Row, Spot};
+use landmark::{Element, Fault, Records, Role, Spacing, read_list};
 
 impl Plan {
     // The plan of no landmarks.
     pub fn none() -> Plan
         ensures { PlanOf result [] }
     {
-        let nowhere = Spot {
-            length: 0,
-            landmark: 0,
-            front: Front::First,
-        };
         Plan {
-            landmarks: 0,
-            words: 0,
-            roles: [Role::Entry; 32],
-            spots: [nowhere; 64],
+            roles: Row::empty(Role::Entry),
+            spots: Row::empty(Spot {
+                length: 0,
+                landmark: 0,
+                front: None,
+            }),
         }
     }
 
-    // One landmark more, where there is room.
-    fn add_landmark(&mut self, role: Role)
-        ensures { AddsLandmark self.old role self.new }
-    {
-        if self.landmarks < 32 {
-            self.roles[self.landmarks] = role;
-            self.landmarks += 1;
-        }
-    }
-
-    // One word more of the newest landmark, where there is room.
-    fn add_word(&mut self, length: usize, front: Front)
-        ensures { AddsWord self.old length front self.new }
-    {
-        if self.words < 64 {
-            let landmark = self.landmarks.saturating_sub(1);
-            self.spots[self.words] = Spot {
-                length,
-                landmark,
-                front,
-            };
-            self.words += 1;
-        }
-    }
-    // Takes one element up. `front` lies in front of the next word, and so does what is answered.
-    fn take(&mut self, element: Element<'_>, front: Front) -> Front
+    // Takes one element up. `front` is the gap in front of the next word so far, and so is what is answered.
+    fn take(&mut self, element: Element<'_>, front: Option<Spacing>) -> Option<Spacing>
         ensures { (is : List Item) (ms : List Landmark) → Small ms → SoFar self.old front (item element.entry ∷ is) ms → SoFar self.new result is ms }
     {
         match element {
             Element::Start(role) => {
-                self.add_landmark(role);
-                Front::First
+                self.roles.push(role);
+                None
             }
             Element::Run(bytes) => {
-                self.add_word(bytes.len(), front);
-                Front::Behind(Spacing::none())
+                let landmark = self.roles.count.saturating_sub(1);
+                self.spots.push(Spot {
+                    length: bytes.len(),
+                    landmark,
+                    front,
+                });
+                Some(Spacing::none())
             }
-            Element::Gap(gap) => widened(
-                front,
-                Spacing {
-                    least: gap.least,
-                    greatest: Some(gap.greatest),
-                },
-            ),
-            Element::Star => widened(
-                front,
-                Spacing {
-                    least: 0,
-                    greatest: None,
-                },
-            ),
-            Element::Any => widened(
-                front,
-                Spacing {
-                    least: 1,
-                    greatest: Some(1),
-                },
-            ),
+            Element::Gap(_) | Element::Star | Element::Any => {
+                Some(front?.plus(element.allowance()))
+            }
         }
     }
 
@@ -105,11 +53,9 @@ impl Plan {
     {
         read_list(list)?;
         let mut plan = Plan::none();
-        let mut front = Front::First;
-        let mut place = 0;
-        while let Ok(read) = read_element(list, place) {
-            front = plan.take(read.element, front);
-            place = read.next;
+        let mut front = None;
+        for read in Records::of(list) {
+            front = plan.take(read?.element, front);
         }
         Ok(plan)
     }

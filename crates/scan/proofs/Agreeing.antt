@@ -1,14 +1,26 @@
 -- Whether two scans tell the same, by their own numbers.
-use Rattle.std.proofs.Common.{◌≡◌, ℕ, ◌<◌, ◌≤◌, List, length, get_or, take, Some, None, Option, sym, refl, ap, ◌∙◌, subst, arith}
+use Rattle.std.proofs.Common.{◌≡◌, ℕ, ◌<◌, ◌≤◌, eqb, Decides, List, length, get_or, take, Some, None, Option, sym, refl, ap, ◌∙◌, subst, arith}
+use Rattle.std.proofs.lemmas.Bool.Decides.{Decides-eqb, Decides-like}
+use Rattle.std.specs.Option.{option_eq}
 use Rattle.std.proofs.lemmas.List.{get_or_default, get_or-take, length-take-le, same_lists}
+use Rattle.finder.specs.declared.finder.Finder.{Ghosts}
 use Rattle.track.specs.declared.tracks.Tracks.{Tracks}
 use Rattle.scan.specs.History.{History, status}
 use Rattle.scan.specs.Rules.{Facts, facts}
-use Rattle.scan.specs.Calls.{Stands, own_facts, facts_by}
+use Rattle.scan.specs.Calls.{Stands, ends_of, own_facts}
+use Rattle.plan.specs.Seats.{roles_of}
 use Rattle.scan.specs.Promise.{Alike}
-use Rattle.scan.proofs.Asking.{own_open}
+use Rattle.scan.proofs.Asking.{length-ends}
+use Rattle.scan.specs.declared.scan.Progress.{Progress}
 use Rattle.scan.proofs.Facts.{own_is}
 use Rattle.scan.specs.declared.scan.Scan.{Scan}
+
+-- the derived test of two ends decides whether they are the same
+pub Decides-option_eq : (a b : Option ℕ) → Decides (option_eq eqb a b) (a ≡ b)
+Decides-option_eq None None = (λ _. refl, λ _. refl)
+Decides-option_eq None (Some y) = (λ e. cc, λ e. cc)
+Decides-option_eq (Some x) None = (λ e. cc, λ e. cc)
+Decides-option_eq (Some x) (Some y) = Decides-like _ (ap Some) (λ e. cc) (Decides-eqb x y)
 
 -- the same ends, one by one
 module _ (s t : Tracks) (n : ℕ) (few : n ≤ 32) where
@@ -29,19 +41,11 @@ alike_self : (f : Option Facts) → Alike f f
 alike_self None = tt
 alike_self (Some f) = (refl, refl)
 
-module _ {F G : Type 0} (words halves : F → List (List ℕ)) (words' halves' : G → List (List ℕ)) (s : Scan F) (t : Scan G) where
-  -- scans that stand at the same status tell the same
-  pub alike_at : (h i : History) → Stands words halves h s → Stands words' halves' i t → status h ≡ status i → Alike (own_facts words halves s) (own_facts words' halves' t)
-  alike_at h i st st' same =
-      subst (λ (f : Option Facts). Alike f (own_facts words' halves' t)) (own_is words' halves' i t st' ∙ ap facts (sym same) ∙ sym (own_is words halves h s st)) (alike_self (own_facts words' halves' t))
+-- scans that stand at the same status tell the same
+pub alike_at : {F G : Type 0} (finder : Ghosts F) (finder' : Ghosts G) (s : Scan F) (t : Scan G) (h i : History) → Stands finder h s → Stands finder' i t → status h ≡ status i → Alike (own_facts s) (own_facts t)
+alike_at finder finder' s t h i st st' same =
+    subst (λ (f : Option Facts). Alike f (own_facts t)) (own_is finder' i t st' ∙ ap facts (sym same) ∙ sym (own_is finder h s st)) (alike_self (own_facts t))
 
-  -- scans that tell the same and are open have as many landmarks and bytes
-  pub alike_open : (n m : ℕ) → s.announced ≡ Some n → t.announced ≡ Some m → Alike (own_facts words halves s) (own_facts words' halves' t) → (s.plan.landmarks ≡ t.plan.landmarks) × (s.taken ≡ t.taken)
-  alike_open n m open-s open-t same =
-      let (taken, ends) : (s.taken ≡ t.taken) × (take s.plan.landmarks s.tracks.ends ≡ take t.plan.landmarks t.tracks.ends) =
-      subst (λ (f : Option Facts). Alike (Some (facts_by words halves n s)) f) (own_open words' halves' t m open-t) (subst (λ (f : Option Facts). Alike f (own_facts words' halves' t)) (own_open words halves s n open-s) same) in
-      let few-s = s.plan.few in
-      let few-t = t.plan.few in
-      let all-s = s.tracks.all_ends in
-      let all-t = t.tracks.all_ends in
-      (sym (length-take-le s.plan.landmarks s.tracks.ends (omega arith)) ∙ ap length ends ∙ length-take-le t.plan.landmarks t.tracks.ends (omega arith), taken)
+-- where the ends are the same, there are as many landmarks
+pub same_landmarks : (p q : Progress) → ends_of p.plan p.tracks ≡ ends_of q.plan q.tracks → length (roles_of p.plan) ≡ length (roles_of q.plan)
+same_landmarks p q same = sym (length-ends p.plan p.tracks) ∙ ap length same ∙ length-ends q.plan q.tracks

@@ -1,16 +1,14 @@
 -- What a call does by the scan's own numbers, it does at any history at which the scan stands.
-use Rattle.std.proofs.Common.{◌≡◌, ℕ, ◌≤◌, Bool, true, not, List, ◌∷◌, Some, None, Ok, Err, Option, Result, sym, refl, ap, ◌∙◌, subst}
+use Rattle.std.proofs.Common.{◌≡◌, ℕ, ◌∷◌, Some, None, Ok, Err, Option, Result, sym, refl, ap, ◌∙◌, subst}
 use Prim.{tt}
-use native.Mathlib.Bridge.{le_prop}
+use Rattle.finder.specs.declared.finder.Finder.{Ghosts}
 use Rattle.landmark.specs.declared.refusal.Fault.{Fault}
-use Rattle.landmark.specs.declared.refusal.Refusal.TheVariants.{OtherOrder}
-use Rattle.scan.specs.Announced.{most_announced, most_bytes}
 use Rattle.scan.specs.History.{History, Event, issued, carried-out, struck_off, Status, idle, open_on, status, out}
-use Rattle.scan.specs.Rules.{Line, line, refusal, end_at, ask_refusal, issue_refusal, settle_refusal, same_numbers}
+use Rattle.scan.specs.Rules.{Line, refusal, end_at, ask_refusal, issue_refusal, settle_refusal}
 use Rattle.scan.specs.Calls.{Upon, Settled, At, Stands, Asked, Issued, CarriedOut, StruckOff, own_facts, with_out}
 use Rattle.scan.proofs.Asking.{answered, refused-by}
 use Rattle.scan.proofs.Facts.{own_is}
-use Rattle.scan.proofs.Standing.{upon_refusal}
+use Rattle.scan.proofs.Standing.{upon_refusal, upon_told}
 use Rattle.scan.specs.declared.order.Numbers.{Numbers}
 use Rattle.scan.specs.declared.order.Order.{Order}
 use Rattle.scan.specs.declared.order.Returned.{Returned}
@@ -36,70 +34,51 @@ settled_so l m o a r told so s t same follows u = subst (λ (x : Line). Settled 
     weaker (Some f) u = u
     weaker None u = (u.0, follows u.1)
 
--- the order that is out is accepted
-pub accepted : {A S : Type 0} (held : Option Numbers) (o : Order) (a : A) (told : Type 0) (s t : S) → same_numbers held o.numbers ≡ true → told → Settled (settle_refusal held o.numbers) o a (Ok a) told s t
-accepted held o a told s t same so = subst (λ (b : Bool). Settled (line (not b) OtherOrder o.numbers.entry) o a (Ok a) told s t) (sym same) (refl, so)
-
-module _ {F : Type 0} (words halves : F → List (List ℕ)) where
-  -- how it is known that a scan keeps its limits makes no difference
-  pub same-scan : (held : Option Numbers) (s : Scan F) (known : s.taken ≤ most_bytes s.announced) (little : most_bytes s.announced ≤ most_announced) → record { finder = s.finder; announced = s.announced; plan = s.plan; taken = s.taken; tracks = s.tracks; out = held; within = known; small = little } ≡ with_out words halves held s
-  same-scan held s known little =
-      ap (λ x. record { finder = s.finder; announced = s.announced; plan = s.plan; taken = s.taken; tracks = s.tracks; out = held; within = x; small = little }) (le_prop known s.within)
-      ∙ ap (λ x. record { finder = s.finder; announced = s.announced; plan = s.plan; taken = s.taken; tracks = s.tracks; out = held; within = s.within; small = x }) (le_prop little s.small)
-
+module _ {F : Type 0} (finder : Ghosts F) where
   -- another order out changes nothing of what is taken and found
-  at_with_out : (held : Option Numbers) (st : Status) (s : Scan F) → At words halves st s → At words halves st (with_out words halves held s)
+  at_with_out : (held : Option Numbers) (st : Status) (s : Scan F) → At finder st s → At finder st (with_out held s)
   at_with_out held idle s at = at
-  at_with_out held (open_on o image) s at = record {
-    announced = at.announced;
-    taken = at.taken;
-    well_formed = at.well_formed;
-    in_order = at.in_order;
-    plan = at.plan;
-    same-words = at.same-words;
-    half = at.half;
-    tracks = at.tracks;
-  }
+  at_with_out held (open_on o image) s at = at
 
-  stands_with_out : (held : Option Numbers) (v : Event) (h : History) (s t : Scan F) → status (v ∷ h) ≡ status h → held ≡ out (v ∷ h) → t ≡ with_out words halves held s → Stands words halves h s → Stands words halves (v ∷ h) t
+  stands_with_out : (held : Option Numbers) (v : Event) (h : History) (s t : Scan F) → status (v ∷ h) ≡ status h → held ≡ out (v ∷ h) → t ≡ with_out held s → Stands finder h s → Stands finder (v ∷ h) t
   stands_with_out held v h s t kept holds is st =
-      subst (Stands words halves (v ∷ h)) (sym is)
-      (record { scan = subst (λ (x : Status). At words halves x (with_out words halves held s)) (sym kept) (at_with_out held (status h) s st.scan); order = holds })
+      subst (Stands finder (v ∷ h)) (sym is)
+      (record { scan = subst (λ (x : Status). At finder x (with_out held s)) (sym kept) (at_with_out held (status h) s st.scan); order = holds })
 
   module _ (s : Scan F) (o : Order) (t : Scan F) where
-    pub carried-out_so : (r : Result ℕ Returned) → Settled (settle_refusal s.out o.numbers) o o.numbers.entry r (t ≡ with_out words halves None s) s t → CarriedOut words halves s o r t
+    pub carried-out_so : (r : Result ℕ Returned) → Settled (settle_refusal s.out o.numbers) o o.numbers.entry r (t ≡ with_out None s) s t → CarriedOut finder s o r t
     carried-out_so r always = record {
       always = always;
       upon = λ h st. settled_so _ _ o _ r _ _ s t (ap (λ (x : Option Numbers). settle_refusal x o.numbers) st.order) (λ is. stands_with_out None (carried-out o.numbers o.numbers.entry) h s t refl refl is st) always;
     }
 
-    pub struck_off_so : (r : Result (Unit {0}) Returned) → Settled (settle_refusal s.out o.numbers) o tt r (t ≡ with_out words halves None s) s t → StruckOff words halves s o r t
+    pub struck_off_so : (r : Result (Unit {0}) Returned) → Settled (settle_refusal s.out o.numbers) o tt r (t ≡ with_out None s) s t → StruckOff finder s o r t
     struck_off_so r always = record {
       always = always;
       upon = λ h st. settled_so _ _ o _ r _ _ s t (ap (λ (x : Option Numbers). settle_refusal x o.numbers) st.order) (λ is. stands_with_out None (struck_off o.numbers) h s t refl refl is st) always;
     }
 
-  pub asked_so : (s : Scan F) (k : ℕ) (r : Result (Option ℕ) Fault) → Upon (ask_refusal (own_facts words halves s) k) r (λ e. e ≡ end_at (own_facts words halves s) k) s s → Asked words halves s k r
+  pub asked_so : (s : Scan F) (k : ℕ) (r : Result (Option ℕ) Fault) → Upon (ask_refusal (own_facts s) k) r (λ e. e ≡ end_at (own_facts s) k) s s → Asked finder s k r
   asked_so s k r always = record {
     always = always;
-    upon = λ h st. let same = own_is words halves h s st in upon_so _ _ r _ _ s s (ap (λ x. ask_refusal x k) same) (λ e is. is ∙ ap (λ x. end_at x k) same) always;
+    upon = λ h st. let same = own_is finder h s st in upon_so _ _ r _ _ s s (ap (λ x. ask_refusal x k) same) (λ e is. is ∙ ap (λ x. end_at x k) same) always;
   }
 
   pub issued_so : (s : Scan F) (k : ℕ) (r : Result Order Fault) (t : Scan F)
-      → Upon (issue_refusal s.out (own_facts words halves s) k) r (λ o. (o.numbers.landmark ≡ k) × (end_at (own_facts words halves s) k ≡ Some o.numbers.entry) × (t ≡ with_out words halves (Some o.numbers) s)) s t → Issued words halves s k r t
+      → Upon (issue_refusal s.out (own_facts s) k) r (λ o. (o.numbers.landmark ≡ k) × (end_at (own_facts s) k ≡ Some o.numbers.entry) × (t ≡ with_out (Some o.numbers) s)) s t → Issued finder s k r t
   issued_so s k r t always = record {
     always = always;
     upon = λ h st.
-        let same = own_is words halves h s st in
-        upon_so _ _ r _ _ s t (ap (λ x. issue_refusal x (own_facts words halves s) k) st.order ∙ ap (λ x. issue_refusal (out h) x k) same)
+        let same = own_is finder h s st in
+        upon_so _ _ r _ _ s t (ap (λ x. issue_refusal x (own_facts s) k) st.order ∙ ap (λ x. issue_refusal (out h) x k) same)
         (λ o (landmark, end, is). (landmark, sym (ap (λ x. end_at x k) same) ∙ end, stands_with_out (Some o.numbers) (issued o.numbers) h s t refl refl is st)) always;
   }
 
   -- an order by what was answered of its entry
-  pub issued_entry : (s : Scan F) (k e : ℕ) (r : Result ℕ Fault) (known : s.taken ≤ most_bytes s.announced) (little : most_bytes s.announced ≤ most_announced) → r ≡ Ok e → Upon (issue_refusal s.out (own_facts words halves s) k) r (λ x. end_at (own_facts words halves s) k ≡ Some x) s s
-      → Issued words halves s k (Ok (record { numbers = record { landmark = k; entry = e } })) (record { finder = s.finder; announced = s.announced; plan = s.plan; taken = s.taken; tracks = s.tracks; out = Some (record { landmark = k; entry = e }); within = known; small = little })
-  issued_entry s k e r known little is u =
-      let l = issue_refusal s.out (own_facts words halves s) k in
+  pub issued_entry : (s : Scan F) (k e : ℕ) (r : Result ℕ Fault) → r ≡ Ok e → Upon (issue_refusal s.out (own_facts s) k) r (λ x. end_at (own_facts s) k ≡ Some x) s s
+      → Issued finder s k (Ok (record { numbers = record { landmark = k; entry = e } })) (with_out (Some (record { landmark = k; entry = e })) s)
+  issued_entry s k e r is u =
+      let l = issue_refusal s.out (own_facts s) k in
       let free = sym (upon_refusal l r _ s s u) ∙ ap refusal is in
-      let end : end_at (own_facts words halves s) k ≡ Some e = subst (λ (x : Line). Upon x (Ok e) (λ x. end_at (own_facts words halves s) k ≡ Some x) s s) free (subst (λ (x : Result ℕ Fault). Upon l x (λ x. end_at (own_facts words halves s) k ≡ Some x) s s) is u) in
-      issued_so s k _ _ (answered l _ _ s _ free (refl, end, same-scan _ s known little))
+      let end = upon_told l e (λ x. end_at (own_facts s) k ≡ Some x) s s (subst (λ (x : Result ℕ Fault). Upon l x (λ x. end_at (own_facts s) k ≡ Some x) s s) is u) in
+      issued_so s k _ _ (answered l _ _ s _ free (refl, end, refl))

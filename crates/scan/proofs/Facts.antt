@@ -1,13 +1,18 @@
 -- The facts by a scan's own numbers are those of the history at which it stands.
-use Rattle.std.proofs.Common.{◌≡◌, ℕ, suc, ◌≤◌, List, [], ◌∷◌, map, length, get_or, take, Some, None, Option, refl, ap, ◌∙◌, arith}
+use Rattle.std.proofs.Common.{◌≡◌, ℕ, suc, ◌≤◌, List, [], ◌∷◌, map, length, get_or, take, Some, None, refl, ap, ◌∙◌, arith}
+use Rattle.std.proofs.lemmas.List.{length-map}
 use Rattle.std.specs.List.{slice_get}
 use Rattle.occurrence.specs.Laws.{OneEnd}
 use Rattle.occurrence.proofs.SearchLaws.{search_finds_the_end}
+use Rattle.finder.specs.declared.finder.Finder.{Ghosts}
 use Rattle.landmark.specs.Grammar.{landmarks_of, pattern_of}
+use Rattle.plan.specs.Seats.{role_of, roles_of}
 use Rattle.track.proofs.Ends.{track_end}
 use Rattle.scan.specs.History.{History, Status, idle, open_on, status}
 use Rattle.scan.specs.Rules.{Facts, facts, facts_on, end_in}
-use Rattle.scan.specs.Calls.{At, Stands, own_facts, facts_when}
+use Rattle.scan.specs.Calls.{At, Stands, ends_of, facts_by, own_facts}
+use Rattle.scan.proofs.Asking.{own_open}
+use Rattle.std.specs.Option.{option_map}
 use Rattle.scan.specs.declared.scan.Scan.{Scan}
 
 one_end : OneEnd
@@ -30,18 +35,18 @@ same-facts f g announced taken roles ends =
     ∙ ap (λ x. record { announced = g.announced; taken = g.taken; roles = x; ends = f.ends }) roles
     ∙ ap (λ x. record { announced = g.announced; taken = g.taken; roles = g.roles; ends = x }) ends
 
-module _ {F : Type 0} (words halves : F → List (List ℕ)) where
-  pub own_at : (st : Status) (s : Scan F) → At words halves st s → own_facts words halves s ≡ facts st
-  own_at idle s at = ap (λ (x : Option ℕ). facts_when words halves x s) at
-  own_at (open_on o image) s at =
+module _ {F : Type 0} (finder : Ghosts F) where
+  pub own_at : (st : Status) (s : Scan F) → At finder st s → own_facts s ≡ facts st
+  own_at idle s at = ap (option_map facts_by) at
+  own_at (open_on o image) s (p, is, at) =
       let ms = landmarks_of o.list in
-      let size = at.plan.landmarks in
-      let room = s.tracks.all_ends in
+      let size : length (roles_of p.plan) ≡ length ms = ap length at.plan.roles ∙ length-map ms role_of in
+      let room = p.tracks.all_ends in
       let few = at.well_formed.few in
-      let ends : take s.plan.landmarks s.tracks.ends ≡ map (end_in image) ms =
-      ap (λ (n : ℕ). take n s.tracks.ends) size
-      ∙ take-map (end_in image) None ms s.tracks.ends (omega arith) (λ k m there. one_end (pattern_of m) image _ _ (track_end ms image s.tracks at.tracks k m there) (search_finds_the_end (pattern_of m) image)) in
-      ap (λ (x : Option ℕ). facts_when words halves x s) at.announced ∙ ap Some (same-facts _ (facts_on o image) refl at.taken at.plan.roles ends)
+      let ends : ends_of p.plan p.tracks ≡ map (end_in image) ms =
+      ap (λ (n : ℕ). take n p.tracks.ends) size
+      ∙ take-map (end_in image) None ms p.tracks.ends (omega arith) (λ k m there. one_end (pattern_of m) image _ _ (track_end ms image p.tracks at.tracks k m there) (search_finds_the_end (pattern_of m) image)) in
+      own_open s p is ∙ ap Some (same-facts (facts_by p) (facts_on o image) at.announced at.taken at.plan.roles ends)
 
-  pub own_is : (h : History) (s : Scan F) → Stands words halves h s → own_facts words halves s ≡ facts (status h)
+  pub own_is : (h : History) (s : Scan F) → Stands finder h s → own_facts s ≡ facts (status h)
   own_is h s st = own_at (status h) s st.scan

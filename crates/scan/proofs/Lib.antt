@@ -5,7 +5,6 @@ pub mod Promised
 pub mod Facts
 pub mod Asking
 pub mod Bars
-pub mod Issuing
 pub mod Calling
 pub mod Comparing
 pub mod Opening

@@ -8,7 +8,7 @@ use Rattle.scan.specs.Rules.{Line, Facts, line, out_line, offer_refusal, same_nu
 use Rattle.scan.specs.declared.order.Numbers.{Numbers}
 
 pub some_none : {A X : Type 0} {x : A} → ◌≡◌ {A = Option A} (Some x) None → X
-some_none e = let z : ◌≡◌ {A = ℕ} 0 1 = cc in absurd (omega arith)
+some_none e = cc
 
 pub neither : (a b : Line) → or_else a b ≡ None → (a ≡ None) × (b ≡ None)
 neither (Some f) b e = some_none e

@@ -1,5 +1,5 @@
 -- Taking the bytes of a block, one after another.
-use Rattle.std.proofs.Common.{◌≡◌, ℕ, zero, suc, ◌+◌, ◌-◌, ◌<◌, ◌≤◌, Bool, true, false, not, eqb, ltb, List, [], ◌∷◌, ◌++◌, length, get_or, take, Some, None, Ok, Err, Result, sym, refl, ap, ◌∙◌, subst, append_assoc, append-nil, arith}
+use Rattle.std.proofs.Common.{◌≡◌, ℕ, zero, suc, ◌+◌, ◌-◌, ◌<◌, ◌≤◌, Bool, true, false, not, eqb, ltb, List, [], ◌∷◌, ◌++◌, length, get_or, take, Some, None, Ok, Err, sym, refl, ap, ◌∙◌, subst, append_assoc, append-nil, arith}
 use Rattle.std.proofs.lemmas.Bool.Decides.{nat_tests}
 use Rattle.std.proofs.lemmas.List.{drop_all, length-append}
 use Rattle.std.specs.List.{slice_get}
@@ -10,6 +10,7 @@ use Rattle.finder.specs.Words.{advance_all, half_read, mask, word}
 use Rattle.finder.specs.Meaning.{EndsWith, ExactlyIf}
 use Rattle.finder.proofs.HalfRead.{advance-half_read}
 use Rattle.finder.proofs.Hearing.{found_half_read}
+use Rattle.finder.specs.declared.finder.Finder.{Ghosts}
 use Rattle.landmark.specs.Records.{or_else}
 use Rattle.landmark.specs.Lists.{fault}
 use Rattle.landmark.specs.declared.refusal.Fault.{Fault}
@@ -18,15 +19,14 @@ use Rattle.landmark.specs.Grammar.{Landmark, WellFormed, all_words, landmarks_of
 use Rattle.plan.specs.Seats.{PlanOf}
 use Rattle.plan.proofs.SeatLaws.{seat_word}
 use Rattle.track.specs.Stepping.{BitsTell}
-use Rattle.scan.specs.Announced.{most_bytes}
 use Rattle.scan.specs.History.{Opening, Status, idle, open_on, longer, status}
-use Rattle.scan.specs.Rules.{Line, line, offer_refusal}
-use Rattle.scan.specs.Calls.{At, Offered, OpenOn, Upon, own_facts}
-use Rattle.scan.proofs.Asking.{own_open}
-use Rattle.scan.proofs.Calling.{upon_so}
+use Rattle.scan.specs.Rules.{line, offer_refusal}
+use Rattle.scan.specs.Calls.{At, HasTaken, Offered, own_facts}
+use Rattle.scan.proofs.Asking.{answered, own_open, refused-by}
 use Rattle.scan.proofs.Facts.{own_is}
 use Rattle.scan.specs.Taking.{NextByte, NextBytes}
 use Rattle.scan.proofs.Lines.{some_none, nth_within}
+use Rattle.scan.specs.declared.scan.Progress.{Progress}
 use Rattle.scan.specs.declared.scan.Scan.{Scan}
 
 -- bytes end with a word exactly if it ends at their last byte
@@ -50,13 +50,13 @@ bits_tell ms ws bytes good same k s at =
     let last = ends_last (nth_word s.pattern s.index) bytes in
     (λ bit. last.0 (subst (EndsWith bytes) is (found.0 bit)), λ ends. found.1 (subst (EndsWith bytes) (sym is) (last.1 ends)))
 
-module _ {F : Type 0} (words halves : F → List (List ℕ)) where
-  open_more : (o : Opening) (image : List ℕ) (s : Scan F) (b : ℕ) (t : Scan F) → NextByte words halves s b t → OpenOn words halves o image s → OpenOn words halves o (image ++ (b ∷ [])) t
-  open_more o image s b t n at =
+module _ {F : Type 0} (finder : Ghosts F) where
+  takes_more : (o : Opening) (image : List ℕ) (f : F) (p : Progress) (b : ℕ) (g : F) (q : Progress) → NextByte finder f p b g q → HasTaken finder o image f p → HasTaken finder o (image ++ (b ∷ [])) g q
+  takes_more o image f p b g q n at =
       let ws = words_of o.list in
-      let half : halves t.finder ≡ half_read ws (image ++ (b ∷ [])) =
-      n.took.half ∙ ap (λ vs. advance_all vs b (halves s.finder)) at.same-words ∙ ap (advance_all ws b) at.half ∙ advance-half_read ws b image in
-      let mask_is : n.ending ≡ mask ws (half_read ws (image ++ (b ∷ []))) = n.took.tells ∙ ap (λ vs. mask vs (halves t.finder)) at.same-words ∙ ap (mask ws) half in
+      let half : finder.halves g ≡ half_read ws (image ++ (b ∷ [])) =
+      n.took.half ∙ ap (λ vs. advance_all vs b (finder.halves f)) at.same-words ∙ ap (advance_all ws b) at.half ∙ advance-half_read ws b image in
+      let mask_is : n.ending ≡ mask ws (half_read ws (image ++ (b ∷ []))) = n.took.tells ∙ ap (λ vs. mask vs (finder.halves g)) at.same-words ∙ ap (mask ws) half in
       let taken = n.longer.taken in
       let before = at.taken in
       let size = length-append image (b ∷ []) in
@@ -65,58 +65,63 @@ module _ {F : Type 0} (words halves : F → List (List ℕ)) where
         taken = omega arith;
         well_formed = at.well_formed;
         in_order = at.in_order;
-        plan = subst (λ p. PlanOf p (landmarks_of o.list)) (sym n.longer.plan) at.plan;
+        plan = subst (λ x. PlanOf x (landmarks_of o.list)) (sym n.longer.plan) at.plan;
         same-words = n.took.kept ∙ at.same-words;
         half = half;
         tracks = n.tracks (landmarks_of o.list) image b at.well_formed at.plan at.tracks (ap (λ (x : ℕ). x + 1) before)
             (subst (BitsTell (landmarks_of o.list) (image ++ (b ∷ []))) (sym mask_is) (bits_tell (landmarks_of o.list) ws (image ++ (b ∷ [])) at.well_formed at.in_order));
       }
 
-  pub one_more : (s : Scan F) (block : List ℕ) (t : Scan F) (b : ℕ) (u : Scan F) → NextBytes words halves s block t → NextByte words halves t b u → NextBytes words halves s (block ++ (b ∷ [])) u
-  one_more s block t b u before n =
+  pub one_more : (f : F) (p : Progress) (block : List ℕ) (g : F) (q : Progress) (b : ℕ) (h : F) (u : Progress) → NextBytes finder f p block g q → NextByte finder g q b h u → NextBytes finder f p (block ++ (b ∷ [])) h u
+  one_more f p block g q b h u before n =
       let so_far = before.longer.taken in
       let taken = n.longer.taken in
       let size = length-append block (b ∷ []) in
       record {
         same-words = n.took.kept ∙ before.same-words;
         longer = record { taken = omega arith; announced = n.longer.announced ∙ before.longer.announced; plan = n.longer.plan ∙ before.longer.plan };
-        same_out = n.same_out ∙ before.same_out;
-        follows = λ o image at. subst (λ xs. OpenOn words halves o xs u) (append_assoc image block (b ∷ [])) (open_more o (image ++ block) t b u n (before.follows o image at));
+        follows = λ o image at. subst (λ xs. HasTaken finder o xs h u) (append_assoc image block (b ∷ [])) (takes_more o (image ++ block) g q b h u n (before.follows o image at));
       }
 
-  longer-at : (st : Status) (s : Scan F) (block : List ℕ) (t : Scan F) → NextBytes words halves s block t → At words halves st s → At words halves (longer st block) t
-  longer-at idle s block t more at = more.longer.announced ∙ at
-  longer-at (open_on o image) s block t more at = more.follows o image at
-
-  module _ (s : Scan F) (place : ℕ) (block : List ℕ) (t : Scan F) where
-    pub offered_so : (r : Result ℕ Fault) → t.out ≡ s.out → words t.finder ≡ words s.finder → Upon (offer_refusal (own_facts words halves s) place (length block)) r (λ n. (n ≡ t.taken) × NextBytes words halves s block t) s t → Offered words halves s place block r t
-    offered_so r same_out same-words u = record {
-      always = upon_so _ _ r _ _ s t refl (λ n (is, more). (is, more.longer)) u;
-      same_out = same_out;
-      same-words = same-words;
-      upon = λ h st. upon_so _ _ r _ _ s t (ap (λ x. offer_refusal x place (length block)) (own_is words halves h s st))
-          (λ n (_, more). record { scan = longer-at (status h) s block t more st.scan; order = more.same_out ∙ st.order }) u;
+  module _ (s : Scan F) (place : ℕ) (block : List ℕ) where
+    -- where nothing is taken
+    pub offered_refused : (f : Fault) → offer_refusal (own_facts s) place (length block) ≡ Some f → Offered finder s place block (Err f) s
+    offered_refused f is = record {
+      always = refused-by _ f _ s is;
+      same_out = refl;
+      same-words = refl;
+      upon = λ h st. refused-by _ f _ s (sym (ap (λ x. offer_refusal x place (length block)) (own_is finder h s st)) ∙ is);
     }
 
-    module _ (n : ℕ) (is_open : s.announced ≡ Some n) (at : place ≡ s.taken) where
-      right_place : offer_refusal (own_facts words halves s) place (length block) ≡ or_else (line (ltb n (s.taken + length block)) Overrun n) None
-      right_place =
-          let here : eqb place s.taken ≡ true = grind (arith, nat_tests) in
-          ap (λ x. offer_refusal x place (length block)) (own_open words halves s n is_open)
-          ∙ ap (λ (b : Bool). or_else (line (not b) WrongPlace s.taken) (or_else (line (ltb n (s.taken + length block)) Overrun n) None)) here
+    module _ (p : Progress) (is_open : s.progress ≡ Some p) where
+      module _ (at : place ≡ p.taken) where
+        right_place : offer_refusal (own_facts s) place (length block) ≡ or_else (line (ltb p.announced (p.taken + length block)) Overrun p.announced) None
+        right_place =
+            let here : eqb place p.taken ≡ true = grind (arith, nat_tests) in
+            ap (λ x. offer_refusal x place (length block)) (own_open s p is_open)
+            ∙ ap (λ (b : Bool). or_else (line (not b) WrongPlace p.taken) (or_else (line (ltb p.announced (p.taken + length block)) Overrun p.announced) None)) here
 
-      pub offered_overrun : t ≡ s → n - s.taken < length block → Offered words halves s place block (Err (fault Overrun n)) t
-      offered_overrun same over =
-          let past : ltb n (s.taken + length block) ≡ true = grind (arith, nat_tests) in
-          let line-is : offer_refusal (own_facts words halves s) place (length block) ≡ Some (fault Overrun n) = right_place ∙ ap (λ (b : Bool). or_else (line b Overrun n) None) past in
-          offered_so (Err (fault Overrun n)) (ap (λ (x : Scan F). x.out) same) (ap (λ (x : Scan F). words x.finder) same)
-          (subst (λ (x : Line). Upon {A = ℕ} x (Err (fault Overrun n)) (λ r. (r ≡ t.taken) × NextBytes words halves s block t) s t) (sym line-is) (refl, same))
+        pub overrun : p.announced - p.taken < length block → offer_refusal (own_facts s) place (length block) ≡ Some (fault Overrun p.announced)
+        overrun over =
+            let past : ltb p.announced (p.taken + length block) ≡ true = grind (arith, nat_tests) in
+            right_place ∙ ap (λ (b : Bool). or_else (line b Overrun p.announced) None) past
 
-      pub offered_taken : length block ≤ n - s.taken → NextBytes words halves s block t → Offered words halves s place block (Ok t.taken) t
-      offered_taken fits more =
-          let room = s.within in
-          let most : most_bytes s.announced ≡ n = ap most_bytes is_open in
-          let past : ltb n (s.taken + length block) ≡ false = grind (arith, nat_tests) in
-          let line-is : offer_refusal (own_facts words halves s) place (length block) ≡ None = right_place ∙ ap (λ (b : Bool). or_else (line b Overrun n) None) past in
-          offered_so (Ok t.taken) more.same_out more.same-words
-          (subst (λ (x : Line). Upon {A = ℕ} x (Ok t.taken) (λ r. (r ≡ t.taken) × NextBytes words halves s block t) s t) (sym line-is) (refl, more))
+        -- where the block is taken
+        pub offered_taken : (g : F) (q : Progress) → length block ≤ p.announced - p.taken → NextBytes finder s.finder p block g q → Offered finder s place block (Ok q.taken) (record { finder = g; progress = Some q; out = s.out })
+        offered_taken g q fits more =
+            let t : Scan F = record { finder = g; progress = Some q; out = s.out } in
+            let room = p.within in
+            let past : ltb p.announced (p.taken + length block) ≡ false = grind (arith, nat_tests) in
+            let none : offer_refusal (own_facts s) place (length block) ≡ None = right_place ∙ ap (λ (b : Bool). or_else (line b Overrun p.announced) None) past in
+            record {
+              always = answered _ q.taken _ s t none (refl, (p, q, is_open, refl, more.longer));
+              same_out = refl;
+              same-words = more.same-words;
+              upon = λ h st. answered _ q.taken _ s t (sym (ap (λ x. offer_refusal x place (length block)) (own_is finder h s st)) ∙ none) (record { scan = longer-at g q more (status h) st.scan; order = st.order });
+            }
+          where
+            longer-at : (g : F) (q : Progress) → NextBytes finder s.finder p block g q → (st : Status) → At finder st s → At finder (longer st block) (record { finder = g; progress = Some q; out = s.out })
+            longer-at g q more idle at = some_none (sym is_open ∙ at)
+            longer-at g q more (open_on o image) (x, is, at) =
+                let same : x ≡ p = cc in
+                (q, refl, more.follows o image (subst (HasTaken finder o image s.finder) same at))

@@ -33,10 +33,10 @@ entry_role (Some Bar) k e = some_none e
 
 no_end : (e : Option ℕ) → has_end e ≡ false → e ≡ None
 no_end None h = refl
-no_end (Some e) h = let z : ◌≡◌ {A = ℕ} 0 1 = cc in absurd (omega arith)
+no_end (Some e) h = cc
 
 bar_without_end : (r : Role) (e : Option ℕ) → r ≡ Bar → (is_bar r && has_end e) ≡ false → e ≡ None
-bar_without_end Entry e is h = let z : ◌≡◌ {A = ℕ} 0 1 = cc in absurd (omega arith)
+bar_without_end Entry e is h = cc
 bar_without_end Bar e is h = no_end e h
 
 unbarred : (image : List ℕ) (j : ℕ) (ms : List Landmark) → barred_line j (map role_of ms) (map (end_in image) ms) ≡ None → (k : ℕ) (m : Landmark) → slice_get ms k ≡ Some m → m.role ≡ Bar → end_in image m ≡ None

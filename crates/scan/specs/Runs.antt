@@ -1,5 +1,6 @@
 -- Calls on a scan in any sequence, each upon what those before it left, with their answers.
 use Rattle.std.specs.Prelude.{◌≡◌, ℕ, List, [], ◌∷◌, length, Some, None, Ok, Err, Option, Result}
+use Rattle.finder.specs.declared.finder.Finder.{Ghosts}
 use Rattle.landmark.specs.declared.refusal.Fault.{Fault}
 use Rattle.scan.specs.History.{History, Event, opened, took, issued, carried-out, struck_off, status, out}
 use Rattle.scan.specs.Rules.{Line, facts, refusal, open_refusal, offer_refusal, ask_refusal, issue_refusal, settle_refusal}
@@ -57,18 +58,18 @@ rule ws h (issuing k r) = issue_refusal (out h) (facts (status h)) k
 rule ws h (carrying_out o r) = settle_refusal (out h) o.numbers
 rule ws h (striking_off o r) = settle_refusal (out h) o.numbers
 
--- finders of any kind F, by their words and half-read lengths
-module _ {F : Type 0} (words halves : F → List (List ℕ)) where
+-- scans over finders of any kind F
+module _ {F : Type 0} (finder : Ghosts F) where
   -- the call leads from one scan to another, by what the call itself ensures
   abbrev pub Does : Step → Scan F → Scan F → Type 0
-  Does (opening list n r) s t = Opened words halves s list n r t
-  Does (offering place block r) s t = Offered words halves s place block r t
-  Does (asking k r) s t = Asked words halves s k r × (t ≡ s)
-  Does (issuing k r) s t = Issued words halves s k r t
-  Does (carrying_out o r) s t = CarriedOut words halves s o r t
-  Does (striking_off o r) s t = StruckOff words halves s o r t
+  Does (opening list n r) s t = Opened finder s list n r t
+  Does (offering place block r) s t = Offered finder s place block r t
+  Does (asking k r) s t = Asked finder s k r × (t ≡ s)
+  Does (issuing k r) s t = Issued finder s k r t
+  Does (carrying_out o r) s t = CarriedOut finder s o r t
+  Does (striking_off o r) s t = StruckOff finder s o r t
 
   -- a scan made of the finder f, and then these calls, the newest first
   pub data Run (f : F) : List Step → Scan F → Type 0 where
-    made : {s : Scan F} → Made words halves f s → Run f [] s
+    made : {s : Scan F} → Made f s → Run f [] s
     next : {vs : List Step} {s t : Scan F} (v : Step) → Run f vs s → Does v s t → Run f (v ∷ vs) t

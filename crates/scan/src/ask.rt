@@ -7,20 +7,12 @@ use landmark::{Fault, Refusal};
 impl<F: Finder> Scan<F> {
     // The end of a landmark, where it has one in the bytes taken so far.
     pub fn ask(&self, landmark: usize) -> Result<Option<usize>, Fault>
-        ensures { Asked F.Finder.words F.Finder.halves self.now landmark result }
+        ensures { Asked F.Finder self.now landmark result }
     {
-        let Some(_) = self.announced else {
-            return Err(Fault {
-                refusal: Refusal::Idle,
-                detail: 0,
-            });
-        };
-        if landmark >= self.plan.landmarks() {
-            return Err(Fault {
-                refusal: Refusal::NoSuchLandmark,
-                detail: landmark,
-            });
+        let progress = self.progress.as_ref().ok_or(Refusal::Idle.at(0))?;
+        if landmark >= progress.plan.landmarks() {
+            return Err(Refusal::NoSuchLandmark.at(landmark));
         }
-        Ok(self.tracks.end_of(landmark))
+        Ok(progress.tracks.end_of(landmark))
     }
 }

@@ -1,7 +1,7 @@
 use landmark::Fault;
 
 // The numbers of an order: its landmark, and the entry where the image begins to run.
-#[derive(Clone, Copy)]
+#[derive(Clone, Copy, PartialEq, Eq, Debug)]
 pub struct Numbers {
     pub landmark: usize,
     pub entry: usize,

@@ -1,11 +1,11 @@
-ghost use Rattle.scan.specs.Calls.{CarriedOut, StruckOff};
-ghost use Rattle.scan.specs.Rules.{same_numbers};
-ghost use Rattle.std.specs.Prelude.{◌≡◌};
+ghost use Rattle.scan.specs.Calls.{CarriedOut, Settled, StruckOff, with_out};
+ghost use Rattle.scan.specs.Rules.{settle_refusal};
+ghost use Rattle.std.specs.Prelude.{◌≡◌, None};
 
 use crate::order::{Numbers, Order, Returned};
 use crate::scan::Scan;
 use finder::Finder;
-use landmark::{Fault, Refusal};
+use landmark::Refusal;
 
 impl Order {
     // The order's landmark and entry.
@@ -17,45 +17,30 @@ impl Order {
 }
 
 impl<F: Finder> Scan<F> {
-    // Whether the order is the one that is out.
-    fn has_out(&self, order: &Order) -> bool
-        ensures { result ≡ same_numbers self.now.out order.now.numbers }
+    // Spends the order that is out, and answers its numbers.
+    fn settle(&mut self, order: Order) -> Result<Numbers, Returned>
+        ensures { Settled (settle_refusal self.old.out order.numbers) order order.numbers result (self.new ≡ with_out None self.old) self.old self.new }
     {
-        match self.out {
-            Some(out) => out.landmark == order.numbers.landmark && out.entry == order.numbers.entry,
-            None => false,
-        }
-    }
-
-    // Spends an order by carrying it out, and answers its entry.
-    pub fn carry_out(&mut self, order: Order) -> Result<usize, Returned>
-        ensures { CarriedOut F.Finder.words F.Finder.halves self.old order result self.new }
-    {
-        if !self.has_out(&order) {
-            let fault = Fault {
-                refusal: Refusal::OtherOrder,
-                detail: order.numbers.entry,
-            };
+        if self.out != Some(order.numbers) {
+            let fault = Refusal::OtherOrder.at(order.numbers.entry);
             return Err(Returned { fault, order });
         }
         let Order { numbers } = order;
         self.out = None;
-        Ok(numbers.entry)
+        Ok(numbers)
+    }
+
+    // Spends an order by carrying it out, and answers its entry.
+    pub fn carry_out(&mut self, order: Order) -> Result<usize, Returned>
+        ensures { CarriedOut F.Finder self.old order result self.new }
+    {
+        self.settle(order).map(|numbers| numbers.entry)
     }
 
     // Spends an order by striking it off.
     pub fn strike_off(&mut self, order: Order) -> Result<(), Returned>
-        ensures { StruckOff F.Finder.words F.Finder.halves self.old order result self.new }
+        ensures { StruckOff F.Finder self.old order result self.new }
     {
-        if !self.has_out(&order) {
-            let fault = Fault {
-                refusal: Refusal::OtherOrder,
-                detail: order.numbers.entry,
-            };
-            return Err(Returned { fault, order });
-        }
-        let Order { numbers: _ } = order;
-        self.out = None;
-        Ok(())
+        self.settle(order).map(|_| ())
     }
 }

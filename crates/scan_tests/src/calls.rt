@@ -1,7 +1,7 @@
-// The calls of a scan in tables: each is answered by the number and the detail of its refusal, or by 0 and its answer.
+// The calls of a scan in tables, each with its answer.
 ghost use Rattle.scan_tests.specs.Keeping.{Keeps};
 
-use crate::spending::{entering, numbers, spend, striking};
+use crate::spending::{Way, enter, numbers, spend};
 use finder::Finder;
 use link::{LinkFinder, Node};
 use scan::Scan;
@@ -9,64 +9,43 @@ use shift::ShiftFinder;
 use std::process::Abort;
 use std::test::Fail;
 
-pub(crate) const EMPTY: Node = Node {
-    depth: 0,
-    byte: 0,
-    first: 0,
-    next: 0,
-    back: 0,
-    mask: 0,
-};
-
 #[derive(Clone, Copy)]
 pub(crate) enum Call {
     Open(&'static [u8], usize),
     Offer(usize, &'static [u8]),
-    // an end, or 0 for none
     Ask(usize),
     // issuing, then carrying out or striking off
     Enter(usize),
     Strike(usize),
 }
 
-// A call, and the two numbers that answer it.
-pub(crate) type Step = (Call, u8, usize);
-
-fn asking<F: Finder>(scan: &Scan<F>, landmark: usize) -> (u8, usize) {
-    match scan.ask(landmark) {
-        Ok(Some(end)) => (0, end),
-        Ok(None) => (0, 0),
-        Err(fault) => numbers(fault),
-    }
+// What an accepted call answers: the bytes taken, an end, the entry of the order that was carried out, or nothing.
+#[derive(Clone, Copy, PartialEq, Eq, Debug)]
+pub(crate) enum Said {
+    Done,
+    Taken(usize),
+    End(Option<usize>),
+    Entry(usize),
 }
 
-fn opening<F: Finder>(scan: &mut Scan<F>, list: &[u8], announced: usize) -> (u8, usize)
-    ensures { Keeps scan.old.out scan.new.out }
-{
-    match scan.open(list, announced) {
-        Ok(()) => (0, 0),
-        Err(fault) => numbers(fault),
-    }
-}
+// A call's answer, or the number and the detail of its refusal, by the rules' own numbers.
+pub(crate) type Answer = Result<Said, (u8, usize)>;
 
-fn offering<F: Finder>(scan: &mut Scan<F>, place: usize, block: &[u8]) -> (u8, usize)
-    ensures { Keeps scan.old.out scan.new.out }
-{
-    match scan.offer(place, block) {
-        Ok(taken) => (0, taken),
-        Err(fault) => numbers(fault),
-    }
-}
+// A call and its answer.
+pub(crate) type Step = (Call, Answer);
 
-fn answer<F: Finder>(scan: &mut Scan<F>, call: Call) -> (u8, usize)
+fn answer<F: Finder>(scan: &mut Scan<F>, call: Call) -> Answer
     ensures { Keeps scan.old.out scan.new.out }
 {
     match call {
-        Call::Open(list, announced) => opening(scan, list, announced),
-        Call::Offer(place, block) => offering(scan, place, block),
-        Call::Ask(landmark) => asking(scan, landmark),
-        Call::Enter(landmark) => entering(scan, landmark),
-        Call::Strike(landmark) => striking(scan, landmark),
+        Call::Open(list, announced) => scan
+            .open(list, announced)
+            .map(|()| Said::Done)
+            .map_err(numbers),
+        Call::Offer(place, block) => scan.offer(place, block).map(Said::Taken).map_err(numbers),
+        Call::Ask(landmark) => scan.ask(landmark).map(Said::End).map_err(numbers),
+        Call::Enter(landmark) => enter(scan, landmark, Way::CarryOut),
+        Call::Strike(landmark) => enter(scan, landmark, Way::StrikeOff),
     }
 }
 
@@ -78,8 +57,8 @@ pub(crate) fn answers<F: Finder>(
 ) -> Result<(), Fail>
     ensures { Keeps scan.old.out scan.new.out }
 {
-    for step in steps {
-        assert_eq!(rt; answer(scan, step.0), (step.1, step.2));
+    for (call, expected) in steps {
+        assert_eq!(rt; answer(scan, *call), *expected);
     }
     Ok(())
 }
@@ -94,42 +73,26 @@ pub(crate) fn answers_while_out<F: Finder>(
 ) -> Result<(), Fail> {
     let order = scan.issue(landmark)?;
     let answered = answers(rt, scan, steps);
-    let spent = spend(scan, order);
+    let spent = spend(scan, order, Way::CarryOut);
     answered?;
-    assert_eq!(rt; spent, entry);
+    assert_eq!(rt; spent, Said::Entry(entry));
     Ok(())
-}
-
-fn on_links<'a>(
-    rt: &impl Abort,
-    list: &'a [u8],
-    table: &'a [Node],
-    steps: &[Step],
-) -> Result<(), Fail> {
-    let mut finder = LinkFinder::new();
-    finder.mount(list, table)?;
-    let mut scan = Scan::new(finder);
-    answers(rt, &mut scan, steps)
-}
-
-fn on_shifts<'a>(
-    rt: &impl Abort,
-    list: &'a [u8],
-    table: &'a [u64],
-    steps: &[Step],
-) -> Result<(), Fail> {
-    let mut finder = ShiftFinder::new();
-    finder.mount(list, table)?;
-    let mut scan = Scan::new(finder);
-    answers(rt, &mut scan, steps)
 }
 
 // The calls on new scans whose finders have the list's words.
 pub(crate) fn on_each_finder(rt: &impl Abort, list: &[u8], steps: &[Step]) -> Result<(), Fail> {
-    let mut nodes = [EMPTY; 65];
+    let mut nodes = [Node::ROOT; 65];
     link::build(list, &mut nodes)?;
-    on_links(rt, list, &nodes, steps)?;
+    answers(
+        rt,
+        &mut Scan::new(LinkFinder::mounted(list, &nodes)?),
+        steps,
+    )?;
     let mut table = [0u64; 256];
     shift::build(list, &mut table)?;
-    on_shifts(rt, list, &table, steps)
+    answers(
+        rt,
+        &mut Scan::new(ShiftFinder::mounted(list, &table)?),
+        steps,
+    )
 }

@@ -1,5 +1,4 @@
 // Words far apart: gaps at their limits, many starts, and ends that lie too far back.
-use crate::calls::EMPTY;
 use finder::Finder;
 use link::{LinkFinder, Node, build};
 use scan::{MOST_ANNOUNCED, Scan};
@@ -77,10 +76,11 @@ fn end_in<F: Finder>(scan: &mut Scan<F>, list: &[u8], image: Image) -> Result<Op
     Ok(scan.ask(0)?)
 }
 
-fn widest<'a>(rt: &impl Abort, list: &'a [u8], table: &'a [Node]) -> Result<(), Fail> {
-    let mut finder = LinkFinder::new();
-    finder.mount(list, table)?;
-    let mut scan = Scan::new(finder);
+#[test]
+fn the_widest_gap_and_the_longest_run(rt: HostRuntime) -> Result<(), Fail> {
+    let mut table = [Node::ROOT; 66];
+    assert_eq!(rt; build(WIDEST, &mut table)?, 66);
+    let mut scan = Scan::new(LinkFinder::mounted(WIDEST, &table)?);
     for before in [0usize, 1, 63, 64, 255, 319, 320, 321, 700] {
         for between in 254..257usize {
             let image = Image {
@@ -89,35 +89,22 @@ fn widest<'a>(rt: &impl Abort, list: &'a [u8], table: &'a [Node]) -> Result<(), 
                 between,
                 rest: RUN,
             };
-            let end = if between == 255 {
-                Some(before.wrapping_add(320))
-            } else {
-                None
-            };
-            assert_eq!(rt; end_in(&mut scan, list, image)?, end);
+            let end = (between == 255).then_some(before.wrapping_add(320));
+            assert_eq!(rt; end_in(&mut scan, WIDEST, image)?, end);
         }
     }
     Ok(())
 }
 
-#[test]
-fn the_widest_gap_and_the_longest_run(rt: HostRuntime) -> Result<(), Fail> {
-    let mut table = [EMPTY; 66];
-    assert_eq!(rt; build(WIDEST, &mut table)?, 66);
-    widest(&rt, WIDEST, &table)
-}
-
 // Some of the starts lies in the gap's bounds before the y.
-fn in_bounds<'a>(
+fn in_bounds(
     rt: &impl Abort,
-    list: &'a [u8],
-    table: &'a [Node],
+    list: &[u8],
+    table: &[Node],
     least: usize,
     greatest: usize,
 ) -> Result<(), Fail> {
-    let mut finder = LinkFinder::new();
-    finder.mount(list, table)?;
-    let mut scan = Scan::new(finder);
+    let mut scan = Scan::new(LinkFinder::mounted(list, table)?);
     for starts in [1usize, 2, 300, 330] {
         for between in 0..700usize {
             let image = Image {
@@ -128,11 +115,7 @@ fn in_bounds<'a>(
             };
             let farthest = starts.wrapping_add(between);
             let found = between <= greatest && farthest > least;
-            let end = if found {
-                Some(farthest.wrapping_add(1))
-            } else {
-                None
-            };
+            let end = found.then_some(farthest.wrapping_add(1));
             assert_eq!(rt; end_in(&mut scan, list, image)?, end);
         }
     }
@@ -142,17 +125,18 @@ fn in_bounds<'a>(
 #[test]
 fn one_start_and_many(rt: HostRuntime) -> Result<(), Fail> {
     for (list, least, greatest) in GAPS.iter() {
-        let mut table = [EMPTY; 3];
+        let mut table = [Node::ROOT; 3];
         assert_eq!(rt; build(list, &mut table)?, 3);
         in_bounds(&rt, list, &table, *least, *greatest)?;
     }
     Ok(())
 }
 
-fn chain<'a>(rt: &impl Abort, list: &'a [u8], table: &'a [Node]) -> Result<(), Fail> {
-    let mut finder = LinkFinder::new();
-    finder.mount(list, table)?;
-    let mut scan = Scan::new(finder);
+#[test]
+fn two_gaps_in_a_row(rt: HostRuntime) -> Result<(), Fail> {
+    let mut table = [Node::ROOT; 4];
+    assert_eq!(rt; build(CHAIN, &mut table)?, 4);
+    let mut scan = Scan::new(LinkFinder::mounted(CHAIN, &table)?);
     for first in 254..257usize {
         for second in 254..257usize {
             let image = Image {
@@ -161,23 +145,12 @@ fn chain<'a>(rt: &impl Abort, list: &'a [u8], table: &'a [Node]) -> Result<(), F
                 between: first,
                 rest: b"y",
             };
-            assert_eq!(rt; end_in(&mut scan, list, image)?, None);
+            assert_eq!(rt; end_in(&mut scan, CHAIN, image)?, None);
             let taken = repeat(&mut scan, first.wrapping_add(2), b"-", second)?;
             scan.offer(taken, b"z")?;
-            let end = if first == 255 && second == 255 {
-                Some(513)
-            } else {
-                None
-            };
+            let end = (first == 255 && second == 255).then_some(513);
             assert_eq!(rt; scan.ask(0)?, end);
         }
     }
     Ok(())
-}
-
-#[test]
-fn two_gaps_in_a_row(rt: HostRuntime) -> Result<(), Fail> {
-    let mut table = [EMPTY; 4];
-    assert_eq!(rt; build(CHAIN, &mut table)?, 4);
-    chain(&rt, CHAIN, &table)
 }

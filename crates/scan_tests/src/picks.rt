@@ -14,16 +14,16 @@ fn ends_at(image: &[u8], word: &[u8], end: usize) -> bool {
 
 // Whether a word that ends at `end` keeps its gap after the end before.
 fn keeps_gap(word: &Word, before: usize, end: usize) -> bool {
-    let Some(start) = end.checked_sub(word.bytes.len()) else {
+    let Some(gap) = end
+        .checked_sub(word.bytes.len())
+        .and_then(|start| start.checked_sub(before))
+    else {
         return false;
     };
-    let Some(gap) = start.checked_sub(before) else {
-        return false;
-    };
-    match word.greatest {
-        Some(greatest) => gap >= word.least as usize && gap <= greatest as usize,
-        None => gap >= word.least as usize,
-    }
+    gap >= word.least as usize
+        && word
+            .greatest
+            .is_none_or(|greatest| gap <= greatest as usize)
 }
 
 // The last word's end, if the digits of the pick, to the base of one more than the image's length, are the ends of the
@@ -50,20 +50,13 @@ fn last_end(image: &[u8], words: &[Word], pick: usize) -> Option<usize> {
 
 // The smallest end of the last word over all occurrences.
 pub(crate) fn end_by_picks(image: &[u8], words: &[Word]) -> Option<usize> {
-    let mut picks = 1usize;
-    for _ in words {
-        picks = picks.wrapping_mul(image.len().saturating_add(1));
-    }
-    let mut best: Option<usize> = None;
-    for pick in 0..picks {
-        if let Some(end) = last_end(image, words, pick) {
-            best = match best {
-                Some(smaller) if smaller <= end => best,
-                _ => Some(end),
-            };
-        }
-    }
-    best
+    let base = image.len().saturating_add(1);
+    let picks = words
+        .iter()
+        .fold(1usize, |picks, _| picks.wrapping_mul(base));
+    (0..picks)
+        .filter_map(|pick| last_end(image, words, pick))
+        .min()
 }
 
 const SAMPLE: [Word; 2] = [

@@ -1,10 +1,10 @@
 // Random lists, images and cuttings over every kind of finder, against a trial of all picks.
-use crate::calls::EMPTY;
+use crate::calls::{Answer, Said};
 use crate::dice::Dice;
 use crate::picks::{Word, end_by_picks};
-use crate::spending::entering;
+use crate::spending::{Way, enter};
 use finder::{Finder, Pair};
-use landmark::{Element, write_element};
+use landmark::{Element, Role, write_element};
 use link::{LinkFinder, Node};
 use scan::{Scan, agree};
 use shift::ShiftFinder;
@@ -46,7 +46,7 @@ const FAR: Kind = Kind {
 // What is known of a landmark.
 #[derive(Clone, Copy)]
 struct Known {
-    bar: bool,
+    role: Role,
     end: Option<usize>,
 }
 
@@ -63,10 +63,7 @@ struct Case {
 fn random_word(dice: &mut Dice, kind: Kind) -> Word {
     let least = dice.up_to(kind.wide);
     let more = dice.up_to(kind.wide);
-    let greatest = match dice.up_to(2) {
-        0 => None,
-        _ => Some(least.saturating_add(more)),
-    };
+    let greatest = (dice.up_to(2) != 0).then_some(least.saturating_add(more));
     let at = dice.up_to(kind.last).min(9) as usize;
     Word {
         bytes: WORDS[at],
@@ -96,9 +93,8 @@ fn add_gap(list: &mut Vec<u8>, word: &Word) -> Result<(), AllocError> {
     }
 }
 
-fn add_landmark(list: &mut Vec<u8>, bar: bool, words: &[Word]) -> Result<(), Fail> {
-    let role = if bar { 2 } else { 1 };
-    list.extend_from_slice(&[4, 0, 1, 0, role, 0])?;
+fn add_landmark(list: &mut Vec<u8>, role: Role, words: &[Word]) -> Result<(), Fail> {
+    list.extend_from_slice(&[4, 0, 1, 0, role as u8, 0])?;
     for (k, word) in words.iter().enumerate() {
         if k > 0 {
             add_gap(list, word)?;
@@ -122,10 +118,14 @@ fn add_random(
         random_word(dice, kind),
     ];
     let count = dice.up_to(kind.words).clamp(1, 3) as usize;
-    let bar = dice.up_to(3) == 0;
-    add_landmark(list, bar, &words[..count])?;
+    let role = if dice.up_to(3) == 0 {
+        Role::Bar
+    } else {
+        Role::Entry
+    };
+    add_landmark(list, role, &words[..count])?;
     let end = end_by_picks(image, &words[..count]);
-    known.extend_from_slice(&[Known { bar, end }])?;
+    known.push(Known { role, end })?;
     Ok(())
 }
 
@@ -134,11 +134,11 @@ fn random_image(heap: Global, dice: &mut Dice, kind: Kind) -> Result<Vec<u8>, Al
     image.extend_from_slice(b"c")?;
     for _ in 0..dice.up_to(kind.steps) {
         for _ in 0..3 {
-            match dice.up_to(kind.rare) {
-                0 => image.extend_from_slice(b"a")?,
-                1 => image.extend_from_slice(b"b")?,
-                _ => image.extend_from_slice(b"c")?,
-            }
+            image.push(match dice.up_to(kind.rare) {
+                0 => b'a',
+                1 => b'b',
+                _ => b'c',
+            })?;
         }
     }
     Ok(image)
@@ -174,7 +174,7 @@ struct Tables {
 }
 
 fn tables_of(list: &[u8]) -> Result<Tables, Fail> {
-    let mut nodes = [EMPTY; 40];
+    let mut nodes = [Node::ROOT; 40];
     link::build(list, &mut nodes)?;
     let mut numbers = [0u64; 256];
     shift::build(list, &mut numbers)?;
@@ -189,29 +189,26 @@ fn asks<F: Finder>(
     taken: usize,
 ) -> Result<(), Fail> {
     for (k, one) in known.iter().enumerate() {
-        let end = match one.end {
-            Some(end) if end <= taken => Some(end),
-            _ => None,
-        };
-        assert_eq!(rt; scan.ask(k)?, end);
+        assert_eq!(rt; scan.ask(k)?, one.end.filter(|end| *end <= taken));
     }
     Ok(())
 }
 
 // What issuing an order for the landmark in the whole image answers.
-fn order_for(known: &[Known], landmark: usize, one: Known, length: usize) -> (u8, usize) {
-    if one.bar {
-        return (19, landmark);
+fn order_for(known: &[Known], landmark: usize, one: Known, length: usize) -> Answer {
+    if one.role == Role::Bar {
+        return Err((19, landmark));
     }
-    for (k, other) in known.iter().enumerate() {
-        if other.bar && other.end.is_some() {
-            return (21, k);
-        }
+    if let Some(bar) = known
+        .iter()
+        .position(|other| other.role == Role::Bar && other.end.is_some())
+    {
+        return Err((21, bar));
     }
     match one.end {
-        Some(end) if end == length => (23, end),
-        Some(end) => (0, end),
-        None => (22, landmark),
+        Some(end) if end == length => Err((23, end)),
+        Some(end) => Ok(Said::Entry(end)),
+        None => Err((22, landmark)),
     }
 }
 
@@ -232,51 +229,38 @@ fn follow<F: Finder>(
     }
     for (k, one) in case.known.as_slice().iter().enumerate() {
         assert_eq!(rt;
-            entering(scan, k),
+            enter(scan, k, Way::CarryOut),
             order_for(case.known.as_slice(), k, *one, taken)
         );
     }
     Ok(())
 }
 
-fn on_the_whole<'a>(
-    rt: &impl Abort,
-    case: &'a Case,
-    whole: &'a Tables,
-    size: usize,
-) -> Result<(), Fail> {
-    let mut links = LinkFinder::new();
-    links.mount(case.whole.as_slice(), &whole.nodes)?;
-    let mut by_links = Scan::new(links);
+fn on_the_whole(rt: &impl Abort, case: &Case, whole: &Tables, size: usize) -> Result<(), Fail> {
+    let list = case.whole.as_slice();
+    let mut by_links = Scan::new(LinkFinder::mounted(list, &whole.nodes)?);
     follow(rt, &mut by_links, case, size)?;
-    let mut shifts = ShiftFinder::new();
-    shifts.mount(case.whole.as_slice(), &whole.numbers)?;
-    let mut by_shifts = Scan::new(shifts);
+    let mut by_shifts = Scan::new(ShiftFinder::mounted(list, &whole.numbers)?);
     follow(rt, &mut by_shifts, case, 3)?;
     assert!(rt; agree(&by_links, &by_shifts));
     Ok(())
 }
 
-fn on_both_parts<'a>(
+fn on_both_parts(
     rt: &impl Abort,
-    case: &'a Case,
-    one: &'a Tables,
-    two: &'a Tables,
+    case: &Case,
+    one: &Tables,
+    two: &Tables,
     size: usize,
 ) -> Result<(), Fail> {
-    let mut left = LinkFinder::new();
-    left.mount(case.left.as_slice(), &one.nodes)?;
-    let mut right = ShiftFinder::new();
-    right.mount(case.right.as_slice(), &two.numbers)?;
-    let mut by_pair = Scan::new(Pair { left, right });
+    let mut by_pair = Scan::new(Pair {
+        left: LinkFinder::mounted(case.left.as_slice(), &one.nodes)?,
+        right: ShiftFinder::mounted(case.right.as_slice(), &two.numbers)?,
+    });
     follow(rt, &mut by_pair, case, size)?;
-    let mut front = ShiftFinder::new();
-    front.mount(case.left.as_slice(), &one.numbers)?;
-    let mut rear = LinkFinder::new();
-    rear.mount(case.right.as_slice(), &two.nodes)?;
     let mut by_other = Scan::new(Pair {
-        left: front,
-        right: rear,
+        left: ShiftFinder::mounted(case.left.as_slice(), &one.numbers)?,
+        right: LinkFinder::mounted(case.right.as_slice(), &two.nodes)?,
     });
     follow(rt, &mut by_other, case, 100)?;
     assert!(rt; agree(&by_pair, &by_other));

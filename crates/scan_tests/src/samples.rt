@@ -1,5 +1,5 @@
 // Lists and images whose ends are known.
-use crate::calls::{Call, Step, on_each_finder};
+use crate::calls::{Call, Said, Step, on_each_finder};
 use std::test::Fail;
 
 // ab{1,2}cd, an entry
@@ -18,13 +18,13 @@ const FOUR: &[u8] =
     b"\x04\x00\x01\x00\x01\x00\x05\x00\x02\x00abe\x06\x00\x03\x00\x03\x00\x05\x00\x03\x00\x02\x00d\x02\x00\x04\x00\x04\x00\x02\x00ca\x06\x00\x03\x00\x02\x00\x06\x00\x04\x00\x02\x00bd";
 
 const AN_IMAGE_IN_THREE_BLOCKS: [Step; 7] = [
-    (Call::Open(ENTRY, 6), 0, 0),
-    (Call::Offer(0, b"a"), 0, 1),
-    (Call::Offer(1, b"bxc"), 0, 4),
-    (Call::Ask(0), 0, 0),
-    (Call::Offer(4, b"de"), 0, 6),
-    (Call::Ask(0), 0, 5),
-    (Call::Enter(0), 0, 5),
+    (Call::Open(ENTRY, 6), Ok(Said::Done)),
+    (Call::Offer(0, b"a"), Ok(Said::Taken(1))),
+    (Call::Offer(1, b"bxc"), Ok(Said::Taken(4))),
+    (Call::Ask(0), Ok(Said::End(None))),
+    (Call::Offer(4, b"de"), Ok(Said::Taken(6))),
+    (Call::Ask(0), Ok(Said::End(Some(5)))),
+    (Call::Enter(0), Ok(Said::Entry(5))),
 ];
 
 #[test]
@@ -33,10 +33,10 @@ fn an_image_in_three_blocks(rt: HostRuntime) -> Result<(), Fail> {
 }
 
 const AN_END_AT_THE_LENGTH: [Step; 4] = [
-    (Call::Open(ENTRY, 5), 0, 0),
-    (Call::Offer(0, b"abxcd"), 0, 5),
-    (Call::Ask(0), 0, 5),
-    (Call::Enter(0), 23, 5),
+    (Call::Open(ENTRY, 5), Ok(Said::Done)),
+    (Call::Offer(0, b"abxcd"), Ok(Said::Taken(5))),
+    (Call::Ask(0), Ok(Said::End(Some(5)))),
+    (Call::Enter(0), Err((23, 5))),
 ];
 
 #[test]
@@ -45,11 +45,11 @@ fn an_end_at_the_length(rt: HostRuntime) -> Result<(), Fail> {
 }
 
 const A_BAR: [Step; 5] = [
-    (Call::Open(BARRED, 7), 0, 0),
-    (Call::Offer(0, b"abxcdef"), 0, 7),
-    (Call::Ask(0), 0, 5),
-    (Call::Ask(1), 0, 6),
-    (Call::Enter(0), 21, 1),
+    (Call::Open(BARRED, 7), Ok(Said::Done)),
+    (Call::Offer(0, b"abxcdef"), Ok(Said::Taken(7))),
+    (Call::Ask(0), Ok(Said::End(Some(5)))),
+    (Call::Ask(1), Ok(Said::End(Some(6)))),
+    (Call::Enter(0), Err((21, 1))),
 ];
 
 #[test]
@@ -57,25 +57,25 @@ fn a_bar(rt: HostRuntime) -> Result<(), Fail> {
     on_each_finder(&rt, BARRED, &A_BAR)
 }
 
-// A list, an image, and the end of landmark 0 in it, or 0.
-const ENDS: [(&[u8], &[u8], usize); 8] = [
-    (ENTRY, b"abxcd", 5),
-    (ENTRY, b"abcd", 0),
-    (ENTRY, b"abxxxcd", 0),
-    (ENTRY, b"ababxcd", 7),
-    (ENTRY, b"ababcd", 6),
-    (OPEN, b"aaa", 3),
-    (OPEN, b"aa", 0),
-    (FOUR, b"cabebdabedaacafabde", 18),
+// A list, an image, and the end of landmark 0 in it.
+const ENDS: [(&[u8], &[u8], Option<usize>); 8] = [
+    (ENTRY, b"abxcd", Some(5)),
+    (ENTRY, b"abcd", None),
+    (ENTRY, b"abxxxcd", None),
+    (ENTRY, b"ababxcd", Some(7)),
+    (ENTRY, b"ababcd", Some(6)),
+    (OPEN, b"aaa", Some(3)),
+    (OPEN, b"aa", None),
+    (FOUR, b"cabebdabedaacafabde", Some(18)),
 ];
 
 #[test]
 fn known_ends(rt: HostRuntime) -> Result<(), Fail> {
     for (list, image, end) in ENDS.iter() {
         let steps = [
-            (Call::Open(list, image.len()), 0, 0),
-            (Call::Offer(0, image), 0, image.len()),
-            (Call::Ask(0), 0, *end),
+            (Call::Open(list, image.len()), Ok(Said::Done)),
+            (Call::Offer(0, image), Ok(Said::Taken(image.len()))),
+            (Call::Ask(0), Ok(Said::End(*end))),
         ];
         on_each_finder(&rt, list, &steps)?;
     }

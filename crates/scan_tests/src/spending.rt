@@ -1,87 +1,62 @@
 // Issuing orders and spending them.
-ghost use Rattle.scan_tests.specs.Keeping.{Keeps};
+ghost use Rattle.scan_tests.specs.Keeping.{Keeps, Settles};
 ghost use Rattle.std.specs.Prelude.{◌≡◌, Some};
 
+use crate::calls::{Answer, Said};
 use finder::Finder;
 use landmark::Fault;
 use scan::{Order, Returned, Scan};
+
+// How an order is spent. No closure: what it does to the scan would have to be told in each contract.
+#[derive(Clone, Copy)]
+pub(crate) enum Way {
+    CarryOut,
+    StrikeOff,
+}
 
 // The number and the detail of a fault.
 pub(crate) fn numbers(fault: Fault) -> (u8, usize) {
     (fault.refusal.number(), fault.detail)
 }
 
-// Carries out the order that is out.
-pub(crate) fn spend<F: Finder>(scan: &mut Scan<F>, order: Order) -> usize
+// Settles an order on a scan that may not have issued it.
+fn settle<F: Finder>(scan: &mut Scan<F>, order: Order, way: Way) -> Result<Said, Returned>
+    ensures { Settles scan.old.out order result scan.new.out }
+{
+    match way {
+        Way::CarryOut => scan.carry_out(order).map(Said::Entry),
+        Way::StrikeOff => scan.strike_off(order).map(|()| Said::Done),
+    }
+}
+
+// Spends the order that is out.
+pub(crate) fn spend<F: Finder>(scan: &mut Scan<F>, order: Order, way: Way) -> Said
     requires { scan.old.out ≡ Some order.numbers }
 {
-    match scan.carry_out(order) {
-        Ok(entry) => entry,
-        Err(_) => unreachable(),
-    }
+    settle(scan, order, way).unwrap()
 }
 
-// Strikes off the order that is out.
-fn strike<F: Finder>(scan: &mut Scan<F>, order: Order)
-    requires { scan.old.out ≡ Some order.numbers }
-{
-    match scan.strike_off(order) {
-        Ok(()) => (),
-        Err(_) => unreachable(),
-    }
-}
-
-// Issues an order and carries it out.
-pub(crate) fn entering<F: Finder>(scan: &mut Scan<F>, landmark: usize) -> (u8, usize)
+// Issues an order and spends it.
+pub(crate) fn enter<F: Finder>(scan: &mut Scan<F>, landmark: usize, way: Way) -> Answer
     ensures { Keeps scan.old.out scan.new.out }
 {
-    match scan.issue(landmark) {
-        Ok(order) => (0, spend(scan, order)),
-        Err(fault) => numbers(fault),
-    }
+    let order = scan.issue(landmark).map_err(numbers)?;
+    Ok(spend(scan, order, way))
 }
 
-// Issues an order and strikes it off.
-pub(crate) fn striking<F: Finder>(scan: &mut Scan<F>, landmark: usize) -> (u8, usize)
-    ensures { Keeps scan.old.out scan.new.out }
-{
-    match scan.issue(landmark) {
-        Ok(order) => {
-            strike(scan, order);
-            (0, 0)
-        }
-        Err(fault) => numbers(fault),
-    }
-}
-
-// What a scan that carries out an order of another one answers. An order that is handed back is carried out where it was issued.
+// What a scan that is to spend an order of another one answers. An order that is handed back is carried out where it was issued.
 pub(crate) fn bring<F: Finder, G: Finder>(
     from: &mut Scan<F>,
     to: &mut Scan<G>,
     landmark: usize,
-) -> Result<(u8, usize), Fault> {
+    way: Way,
+) -> Result<Answer, Fault> {
     let order = from.issue(landmark)?;
-    match to.carry_out(order) {
-        Ok(entry) => Ok((0, entry)),
+    match settle(to, order, way) {
+        Ok(said) => Ok(Ok(said)),
         Err(Returned { fault, order }) => {
-            spend(from, order);
-            Ok(numbers(fault))
-        }
-    }
-}
-
-// The same with striking off.
-pub(crate) fn bring_off<F: Finder, G: Finder>(
-    from: &mut Scan<F>,
-    to: &mut Scan<G>,
-    landmark: usize,
-) -> Result<(u8, usize), Fault> {
-    let order = from.issue(landmark)?;
-    match to.strike_off(order) {
-        Ok(()) => Ok((0, 0)),
-        Err(Returned { fault, order }) => {
-            spend(from, order);
-            Ok(numbers(fault))
+            spend(from, order, Way::CarryOut);
+            Ok(Err(numbers(fault)))
         }
     }
 }
@@ -92,19 +67,19 @@ fn carry_other<F: Finder, G: Finder>(
     to: &mut Scan<G>,
     other: Order,
     own: Order,
-) -> (u8, usize)
+) -> Answer
     requires theirs { from.old.out ≡ Some other.numbers }
     requires ours { to.old.out ≡ Some own.numbers }
 {
-    match to.carry_out(other) {
-        Ok(entry) => {
-            spend(from, own);
-            (0, entry)
+    match settle(to, other, Way::CarryOut) {
+        Ok(said) => {
+            spend(from, own, Way::CarryOut);
+            Ok(said)
         }
         Err(Returned { fault, order }) => {
-            spend(to, own);
-            spend(from, order);
-            numbers(fault)
+            spend(to, own, Way::CarryOut);
+            spend(from, order, Way::CarryOut);
+            Err(numbers(fault))
         }
     }
 }
@@ -115,12 +90,12 @@ pub(crate) fn exchange<F: Finder, G: Finder>(
     to: &mut Scan<G>,
     other: usize,
     own: usize,
-) -> Result<(u8, usize), Fault> {
+) -> Result<Answer, Fault> {
     let own = to.issue(own)?;
     match from.issue(other) {
         Ok(other) => Ok(carry_other(from, to, other, own)),
         Err(fault) => {
-            spend(to, own);
+            spend(to, own, Way::CarryOut);
             Err(fault)
         }
     }

@@ -1,8 +1,8 @@
 -- Gathering where the words begin and end, word by word.
-use Rattle.std.proofs.Common.{◌≡◌, ℕ, ◌+◌, ◌-◌, ◌*◌, ◌%◌, ◌^◌, ◌<◌, ◌≤◌, List, [], ◌∷◌, length, get_or, drop, sym, ap, ◌∙◌, subst, lt_of_lt_of_le, arith, pow_mono, pow-add}
+use Rattle.std.proofs.Common.{◌≡◌, ℕ, ◌+◌, ◌-◌, ◌*◌, ◌%◌, ◌^◌, ◌<◌, ◌≤◌, List, ◌∷◌, map, length, get_or, drop, ap, ◌∙◌, subst, lt_of_lt_of_le, arith, pow_mono, pow-add, Bor}
 use lib.Bits.{bit_or, or_shifted_r}
 use Rattle.std.proofs.lemmas.Nat.{one_shl}
-use Rattle.std.proofs.lemmas.List.{drop_more, drop_all}
+use Rattle.std.proofs.lemmas.List.{drop_more}
 use Rattle.landmark.specs.Grammar.{sizes}
 use Rattle.shift.specs.Register.{firsts_of, lasts_of}
 
@@ -13,10 +13,6 @@ pub record Edged (ws : List (List ℕ)) (firsts lasts p : ℕ) (rest : List (Lis
   pub begins : firsts + 2 ^ p * firsts_of rest ≡ firsts_of ws
   pub ends : lasts + 2 ^ p * lasts_of rest ≡ lasts_of ws
   pub place : p + sizes rest ≡ sizes ws
-
--- before the first word nothing is gathered
-pub edged_none : (ws : List (List ℕ)) → Edged ws 0 0 0 ws
-edged_none ws = record { small = omega arith; little = omega arith; begins = omega arith; ends = omega arith; place = omega arith }
 
 -- a bit above all others is added by an or
 put-bit : (n p q : ℕ) → n < 2 ^ p → p ≤ q → q < 64 → bit_or n (1 * 2 ^ q % 2 ^ 64) ≡ n + 2 ^ q
@@ -44,25 +40,17 @@ edged_word ws firsts lasts p w rest narrow some g =
       place = omega arith;
     }
 
--- at word k
-module _ (ws : List (List ℕ)) (firsts lasts p k : ℕ) (within : k < length ws) (g : Edged ws firsts lasts p (drop k ws)) where
-  -- the next word is that word
-  next : Edged ws firsts lasts p (get_or ws k [] ∷ drop (k + 1) ws)
-  next = subst (Edged ws firsts lasts p) (drop_more ws k [] within) g
+-- at slice k
+module _ (ws : List (List ℕ)) (firsts lasts p k : ℕ) (slices : List (Bor (List ℕ))) (other : Bor (List ℕ)) (within : k < length slices) (g : Edged ws firsts lasts p (map (λ s. s.now) (drop k slices))) where
+  -- the next word is that slice
+  next : Edged ws firsts lasts p ((get_or slices k other).now ∷ map (λ s. s.now) (drop (k + 1) slices))
+  next = subst (λ rest. Edged ws firsts lasts p (map (λ s. s.now) rest)) (drop_more slices k other within) g
 
   -- it has room
-  pub edged_room : p + length (get_or ws k []) ≤ sizes ws
+  pub edged_room : p + length (get_or slices k other).now ≤ sizes ws
   edged_room = omega (arith, next.place)
 
   -- and its first and its last bit are put
-  pub edged_more : (size : ℕ) → size ≡ length (get_or ws k []) → sizes ws ≤ 64 → 0 < length (get_or ws k [])
-      → Edged ws (bit_or firsts (1 * 2 ^ p % 2 ^ 64)) (bit_or lasts (1 * 2 ^ (p + size - 1) % 2 ^ 64)) (p + size) (drop (k + 1) ws)
-  edged_more size is narrow some =
-      subst (λ (n : ℕ). Edged ws (bit_or firsts (1 * 2 ^ p % 2 ^ 64)) (bit_or lasts (1 * 2 ^ (p + n - 1) % 2 ^ 64)) (p + n) (drop (k + 1) ws)) (sym is)
-      (edged_word ws firsts lasts p (get_or ws k []) (drop (k + 1) ws) narrow some next)
-
--- behind the last word all bits are gathered
-pub edged_all : (ws : List (List ℕ)) (firsts lasts p k : ℕ) → length ws ≤ k → Edged ws firsts lasts p (drop k ws) → (firsts ≡ firsts_of ws) × (lasts ≡ lasts_of ws)
-edged_all ws firsts lasts p k past g =
-    let done = subst (Edged ws firsts lasts p) (drop_all k ws past) g in
-    (omega (arith, done.begins), omega (arith, done.ends))
+  pub edged_more : sizes ws ≤ 64 → 0 < length (get_or slices k other).now
+      → Edged ws (bit_or firsts (1 * 2 ^ p % 2 ^ 64)) (bit_or lasts (1 * 2 ^ (p + length (get_or slices k other).now - 1) % 2 ^ 64)) (p + length (get_or slices k other).now) (map (λ s. s.now) (drop (k + 1) slices))
+  edged_more narrow some = edged_word ws firsts lasts p (get_or slices k other).now (map (λ s. s.now) (drop (k + 1) slices)) narrow some next

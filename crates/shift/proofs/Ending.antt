@@ -5,7 +5,7 @@ use lib.Bits.{bit_or, or_step}
 use lib.Count.{ones, ones_cat}
 use Rattle.std.proofs.lemmas.Nat.{pow_pos, pow_below, mod-pow-add}
 use Rattle.std.proofs.lemmas.Bool.{cases_order, false≢true}
-use Rattle.std.proofs.lemmas.Bool.Decides.{same_from_decides, Decides-like}
+use Rattle.std.proofs.lemmas.Bool.Decides.{same_from_decides, Decides-like, nat_tests}
 use Rattle.finder.specs.Words.{passing, holds, mask}
 use Rattle.finder.proofs.HalfRead.{decides_passing}
 use Rattle.landmark.specs.Grammar.{sizes}
@@ -47,10 +47,7 @@ ended-none start (w ∷ ws) = let first = bit-zero (start + length w - 1) in let
 
 -- the greater of two digits
 max-digits : (t u : Bool) → max (digit t) (digit u) ≡ digit (t || u)
-max-digits true true = refl
-max-digits true false = refl
-max-digits false true = refl
-max-digits false false = refl
+max-digits t u = grind (arith, nat_tests)
 
 -- an or of two numbers that are put together
 or_digits : (t u : Bool) (x y : ℕ) → bit_or (digit t + 2 * x) (digit u + 2 * y) ≡ digit (t || u) + 2 * bit_or x y

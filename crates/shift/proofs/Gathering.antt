@@ -1,10 +1,11 @@
--- Gathering the number of a byte value, byte by byte.
-use Rattle.std.proofs.Common.{◌≡◌, ℕ, ◌+◌, ◌*◌, ◌%◌, ◌^◌, ◌<◌, cond, eqb, List, [], ◌∷◌, ◌++◌, length, get_or, drop, sym, refl, ap, ◌∙◌, subst, add-one, arith}
+-- Gathering the number of a byte value, from the last byte on.
+use Rattle.std.proofs.Common.{◌≡◌, ℕ, ◌*◌, ◌%◌, ◌^◌, ◌<◌, ◌≤◌, cond, eqb, List, [], ◌∷◌, ◌++◌, map, length, sym, refl, ap, ◌∙◌, mod-eq_of_lt, pow_mono, arith, Bor}
 use native.Mathlib.Nat.{pow-succ'}
-use lib.Bits.{bit_or, or_shifted_r}
-use Rattle.std.proofs.lemmas.Nat.{one_shl}
-use Rattle.std.proofs.lemmas.List.{length-append, drop_more}
-use Rattle.std.proofs.lemmas.Bool.{eq-eqb, ne_eqb, cond-true, cond-false}
+use lib.Bits.{bit_or}
+use Rattle.std.proofs.lemmas.Nat.{or_shifted}
+use Rattle.std.proofs.lemmas.List.{length-append, append_assoc, append-nil, map-append}
+use Rattle.std.proofs.lemmas.List.Folds.{concat-append}
+use Rattle.std.proofs.lemmas.Bool.Decides.{nat_tests}
 use Rattle.landmark.specs.Grammar.{sizes}
 use Rattle.shift.specs.Table.{all_bytes, number_of}
 
@@ -13,59 +14,35 @@ pub length-all_bytes : (ws : List (List ℕ)) → length (all_bytes ws) ≡ size
 length-all_bytes [] = refl
 length-all_bytes (w ∷ ws) = let rest = length-all_bytes ws in length-append w (all_bytes ws) ∙ omega arith
 
--- one more power of two
-pub pow_more : (p : ℕ) → 2 ^ (p + 1) ≡ 2 * 2 ^ p
-pow_more p = ap (λ (j : ℕ). 2 ^ j) (add-one p) ∙ pow-succ' 2 p
+-- one more word at the end
+pub all_bytes-last : (slices : List (Bor (List ℕ))) (word : Bor (List ℕ)) → all_bytes (map (λ s. s.now) (slices ++ (word ∷ []))) ≡ all_bytes (map (λ s. s.now) slices) ++ word.now
+all_bytes-last slices word = simp (map-append, concat-append, append-nil)
 
--- the bits of c's number among the first p of all bytes are gathered, and the rest follows
-pub record Gathered (all : List ℕ) (c bits p : ℕ) (rest : List ℕ) : Type 0 where
-  pub small : bits < 2 ^ p
-  pub sum : bits + 2 ^ p * number_of rest c ≡ number_of all c
-  pub place : p + length rest ≡ length all
+-- a number has a bit for each byte
+number_of-small : (bytes : List ℕ) (c : ℕ) → number_of bytes c < 2 ^ length bytes
+number_of-small [] c = omega arith
+number_of-small (b ∷ bs) c =
+    let rest = number_of-small bs c in
+    let twice = pow-succ' 2 (length bs) in
+    grind (arith, nat_tests)
 
--- before the first byte nothing is gathered
-pub gathered_none : (all : List ℕ) (c : ℕ) → Gathered all c 0 0 all
-gathered_none all c = record { small = omega arith; sum = omega arith; place = omega arith }
+-- all bytes are those in front and others behind, and the number of c among these is gathered
+pub record Gathered (front all : List ℕ) (c bits : ℕ) : Type 0 where
+  pub behind : List ℕ
+  pub whole : front ++ behind ≡ all
+  pub number : bits ≡ number_of behind c
 
--- behind the last byte the number is
-pub gathered_all : (all : List ℕ) (c bits p : ℕ) → Gathered all c bits p [] → bits ≡ number_of all c
-gathered_all all c bits p g = omega (arith, g.sum)
-
--- one more byte that is c
-one_same : (all : List ℕ) (c bits p b : ℕ) (rest : List ℕ) → b ≡ c → Gathered all c bits p (b ∷ rest) → Gathered all c (bit_or bits (2 ^ p)) (p + 1) rest
-one_same all c bits p b rest is g =
-    let put : bit_or bits (2 ^ p) ≡ 2 ^ p + bits = ap (bit_or bits) (omega arith) ∙ or_shifted_r 1 p bits g.small ∙ omega arith in
-    let one : cond {A = ℕ} (eqb b c) 1 0 ≡ 1 = cond-true _ _ _ (eq-eqb b c is) in
-    let twice = pow_more p in
-    let before : bits + 2 ^ p * (1 + 2 * number_of rest c) ≡ number_of all c = ap (λ (d : ℕ). bits + 2 ^ p * (d + 2 * number_of rest c)) (sym one) ∙ g.sum in
-    record { small = omega (arith, g.small); sum = rw (put, twice) (omega arith); place = omega (arith, g.place) }
-
--- one more byte that is not
-one_other : (all : List ℕ) (c bits p b : ℕ) (rest : List ℕ) → (b ≡ c → ⊥) → Gathered all c bits p (b ∷ rest) → Gathered all c bits (p + 1) rest
-one_other all c bits p b rest other g =
-    let none : cond {A = ℕ} (eqb b c) 1 0 ≡ 0 = cond-false _ _ _ (ne_eqb b c other) in
-    let twice = pow_more p in
-    let before : bits + 2 ^ p * (0 + 2 * number_of rest c) ≡ number_of all c = ap (λ (d : ℕ). bits + 2 ^ p * (d + 2 * number_of rest c)) (sym none) ∙ g.sum in
-    record { small = omega (arith, g.small); sum = rw twice (omega arith); place = omega (arith, g.place) }
-
--- at byte i of a word w, with the bytes of the words ws in all
-module _ (ws : List (List ℕ)) (c bits p i : ℕ) (w rest : List ℕ) (within : i < length w) (g : Gathered (all_bytes ws) c bits p (drop i w ++ rest)) where
-  -- the next byte is byte i
-  next : Gathered (all_bytes ws) c bits p (get_or w i 0 ∷ (drop (i + 1) w ++ rest))
-  next = subst (λ bs. Gathered (all_bytes ws) c bits p (bs ++ rest)) (drop_more w i 0 within) g
-
-  -- not all places are taken
-  pub gathered_room : p < sizes ws
-  gathered_room = omega (arith, next.place, length-all_bytes ws)
-
-  -- where it is c, its bit is put
-  pub gathered_same : p < 64 → (after : ℕ) → after ≡ bit_or bits (1 * 2 ^ p % 2 ^ 64) → get_or w i 0 ≡ c → Gathered (all_bytes ws) c after (p + 1) (drop (i + 1) w ++ rest)
-  gathered_same few after put is =
-      subst (λ n. Gathered (all_bytes ws) c n (p + 1) (drop (i + 1) w ++ rest)) (sym (put ∙ ap (bit_or bits) (one_shl p 64 few)))
-      (one_same (all_bytes ws) c bits p (get_or w i 0) (drop (i + 1) w ++ rest) is next)
-
-  -- where it is not, no bit is put
-  pub gathered_other : (after : ℕ) → after ≡ bits → (get_or w i 0 ≡ c → ⊥) → Gathered (all_bytes ws) c after (p + 1) (drop (i + 1) w ++ rest)
-  gathered_other after same other =
-      subst (λ n. Gathered (all_bytes ws) c n (p + 1) (drop (i + 1) w ++ rest)) (sym same)
-      (one_other (all_bytes ws) c bits p (get_or w i 0) (drop (i + 1) w ++ rest) other next)
+-- one more byte, with its bit below the others
+pub gathered_more : (front all : List ℕ) (b c bits digit : ℕ) → length all ≤ 64 → digit ≡ cond (eqb b c) 1 0 → Gathered (front ++ (b ∷ [])) all c bits → Gathered front all c (bit_or (bits * 2 % 2 ^ 64) digit)
+gathered_more front all b c bits digit narrow is g =
+    let whole = append_assoc front (b ∷ []) g.behind in
+    let size = length-append front (b ∷ g.behind) in
+    let all_size = ap length (sym whole ∙ g.whole) in
+    let few : length g.behind ≤ 63 = omega arith in
+    let room : 2 ^ length g.behind ≤ 2 ^ 63 = pow_mono few in
+    let small = number_of-small g.behind c in
+    let same = g.number in
+    let kept : bits * 2 % 2 ^ 64 ≡ bits * 2 ^ 1 = mod-eq_of_lt (omega arith) ∙ omega arith in
+    let one : digit < 2 ^ 1 = grind (arith, nat_tests) in
+    let put = ap (λ (n : ℕ). bit_or n digit) kept ∙ or_shifted bits 1 digit one in
+    record { behind = b ∷ g.behind; whole = sym whole ∙ g.whole; number = put ∙ omega arith }

@@ -1,8 +1,6 @@
 pub mod Bits
 pub mod Numbers
 pub mod Gathering
-pub mod Admission
-pub mod Filling
 pub mod Edging
 pub mod Resting
 pub mod MountLaws

@@ -1,10 +1,11 @@
 -- The bits of the numbers of a table.
-use Rattle.std.proofs.Common.{◌≡◌, ℕ, zero, suc, ◌<◌, ◌&&◌, eqb, ltb, List, [], ◌∷◌, ◌++◌, length, get_or, sym, ◌∙◌, subst, arith}
-use Rattle.std.proofs.lemmas.List.FromFn.{get_or-map-range_with_len, length-map-range_with_len}
-use Rattle.std.proofs.lemmas.List.{get_or_append_left}
+use Rattle.std.proofs.Common.{◌≡◌, ℕ, zero, suc, ◌<◌, ◌≤◌, ◌&&◌, eqb, ltb, List, [], ◌∷◌, ◌++◌, length, get_or, take, sym, ◌∙◌, subst, arith}
+use Rattle.std.proofs.lemmas.List.FromFn.{fill_by_all, get_or-map-range_with_len, length-map-range_with_len}
+use Rattle.std.proofs.lemmas.List.{get_or-take, get_or_append_left, length-take-le}
 use Rattle.std.proofs.lemmas.Bool.Decides.{Decides-eqb, Decides-ltb, Decides-and, Decides-at, nat_tests}
 use Rattle.finder.specs.Meaning.{ExactlyIf, Bit}
 use Rattle.shift.specs.Table.{entries, all_bytes, number_of, table_of, TellsPlaces}
+use Rattle.shift.specs.Comparing.{RightAt}
 use Rattle.shift.specs.Register.{bit}
 use Rattle.shift.proofs.Bits.{bit-zero, bit-first, bit-next}
 
@@ -31,3 +32,11 @@ table_at ws rest c within =
 pub table_tells : (ws : List (List ℕ)) (rest : List ℕ) → TellsPlaces ws (table_of ws ++ rest)
 table_tells ws rest c p within =
     subst (λ n. ExactlyIf (Bit n p) ((p < length (all_bytes ws)) × (get_or (all_bytes ws) p 0 ≡ c))) (sym (table_at ws rest c within)) (number-tells (all_bytes ws) c p)
+
+-- right numbers are the table of the words
+pub right_numbers : (ws : List (List ℕ)) (numbers : List ℕ) → length numbers ≡ entries → ((c : ℕ) → c < entries → RightAt ws numbers c) → numbers ≡ table_of ws
+right_numbers ws numbers size right = fill_by_all (number_of (all_bytes ws)) numbers entries 0 size right
+
+-- so the first of a longer table are
+pub right_table : (ws : List (List ℕ)) (table : List ℕ) → entries ≤ length table → ((c : ℕ) → c < entries → RightAt ws table c) → take entries table ≡ table_of ws
+right_table ws table enough right = right_numbers ws (take entries table) (length-take-le entries table enough) (λ c within. get_or-take entries table c 0 within ∙ right c within)

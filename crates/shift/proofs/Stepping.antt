@@ -1,8 +1,9 @@
 -- One more byte: a shifted register holds what the byte makes of the half-read lengths.
-use Rattle.std.proofs.Common.{◌≡◌, ℕ, zero, suc, ◌+◌, ◌*◌, ◌%◌, ◌^◌, ◌<◌, ◌≤◌, Bool, true, false, ◌&&◌, ◌||◌, eqb, ltb, List, [], ◌∷◌, ◌++◌, length, get_or, sym, refl, ap, ◌∙◌, subst, arith}
+use Rattle.std.proofs.Common.{◌≡◌, ℕ, zero, suc, ◌+◌, ◌*◌, ◌%◌, ◌^◌, ◌<◌, ◌≤◌, true, false, ◌&&◌, ◌||◌, eqb, ltb, List, [], ◌∷◌, ◌++◌, length, get_or, sym, refl, ap, ◌∙◌, subst, arith}
 use lib.Bits.{bit_and, bit_or}
 use Rattle.std.proofs.lemmas.Nat.{pow_below}
 use Rattle.std.proofs.lemmas.List.{length-append, get_or_append_left, get_or-append-add}
+use Rattle.std.proofs.Math.Bool.{or-false}
 use Rattle.std.proofs.lemmas.Bool.{lt-ltb, or_right}
 use Rattle.std.proofs.lemmas.Bool.Decides.{nat_tests}
 use Rattle.finder.specs.Words.{advance_all}
@@ -39,11 +40,6 @@ no_first_bit w ws h within = bit-low 1 (length w) (firsts_of ws) (suc h) within 
 later_first_bit : (w : List ℕ) (ws : List (List ℕ)) (p : ℕ) → 0 < length w → bit (firsts_of (w ∷ ws)) (length w + p) ≡ bit (firsts_of ws) p
 later_first_bit w ws p some = bit_high 1 (length w) (firsts_of ws) p (pow_below 0 (length w) some)
 
--- an or with nothing
-or_false : (t : Bool) → (t || false) ≡ t
-or_false true = refl
-or_false false = refl
-
 -- bit p of the shifted register, of words that begin at run byte `start`
 abbrev pub Shifts : ℕ → List (List ℕ) → ℕ → ℕ → ℕ → ℕ → Type 0
 Shifts start ws b r r' p = bit r' (start + p) ≡ ((bit (r * 2) (start + p) || bit (firsts_of ws) p) && bit (number_of (all_bytes ws) b) p)
@@ -57,7 +53,7 @@ goes_on start w ws b r r' (suc h) within is =
     let at : start + suc h ≡ suc (start + h) = omega arith in
     let before = ap (bit (r * 2)) at ∙ bit_shifted r (start + h) in
     is ∙ ap (λ t. (bit (r * 2) (start + suc h) || t) && bit (number_of (all_bytes (w ∷ ws)) b) (suc h)) (no_first_bit w ws h within)
-    ∙ ap (λ t. t && bit (number_of (all_bytes (w ∷ ws)) b) (suc h)) (or_false (bit (r * 2) (start + suc h)) ∙ before) ∙ ap (λ t. bit r (start + h) && t) (number-left w (all_bytes ws) b (suc h) within)
+    ∙ ap (λ t. t && bit (number_of (all_bytes (w ∷ ws)) b) (suc h)) (or-false (bit (r * 2) (start + suc h)) ∙ before) ∙ ap (λ t. bit r (start + h) && t) (number-left w (all_bytes ws) b (suc h) within)
 
 -- and of the words behind it the same
 later : (start : ℕ) (w : List ℕ) (ws : List (List ℕ)) (b r r' p : ℕ) → 0 < length w → Shifts start (w ∷ ws) b r r' (length w + p) → Shifts (start + length w) ws b r r' p

@@ -1,5 +1,5 @@
 -- Building a table: its refusals, and what is written.
-use Rattle.std.specs.Prelude.{◌≡◌, ℕ, Bool, cond, List, ◌++◌, length, drop, Some, None, Ok, Err, Option, Result, nat_lt}
+use Rattle.std.specs.Prelude.{◌≡◌, ℕ, Bool, cond, ◌≤◌, List, ◌++◌, length, drop, Some, None, Ok, Err, Option, Result, nat_lt}
 use Rattle.landmark.specs.Grammar.{words_of}
 use Rattle.landmark.specs.Lists.{fault, list_verdict}
 use Rattle.landmark.specs.Records.{or_else}
@@ -7,7 +7,9 @@ use Rattle.landmark.specs.declared.list.Counts.{Counts}
 use Rattle.landmark.specs.declared.refusal.Fault.{Fault}
 use Rattle.landmark.specs.declared.refusal.Refusal.{Refusal}
 use Rattle.landmark.specs.declared.refusal.Refusal.TheVariants.{TooManyRunBytes, TableTooSmall}
+use Rattle.words.specs.Index.{indexed}
 use Rattle.shift.specs.Table.{entries, most_run_bytes, table_of, TellsPlaces}
+use Rattle.shift.specs.declared.narrow.Narrow.{Narrow}
 
 -- a fault, where it applies
 abbrev pub line : Bool → Refusal → ℕ → Option Fault
@@ -26,9 +28,9 @@ fault_of (Ok counts) numbers = size_fault counts numbers
 abbrev pub admission_fault : List ℕ → ℕ → Option Fault
 admission_fault l numbers = fault_of (list_verdict l) numbers
 
--- what an admission answers
-abbrev pub Admits : List ℕ → ℕ → Result Unit Fault → Type 0
-Admits l numbers (Ok done) = admission_fault l numbers ≡ None
+-- what an admission answers: the list's words, and that the table has enough numbers
+abbrev pub Admits : List ℕ → ℕ → Result Narrow Fault → Type 0
+Admits l numbers (Ok words) = (admission_fault l numbers ≡ None) × (entries ≤ numbers) × (indexed words.index ≡ words_of l)
 Admits l numbers (Err f) = admission_fault l numbers ≡ Some f
 
 -- building: the numbers of the list's words over the first of the table, or a refusal, and the table is as it was

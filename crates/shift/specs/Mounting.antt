@@ -13,11 +13,11 @@ use Rattle.shift.specs.declared.shift.ShiftFinder.{ShiftFinder}
 
 -- the words of a finder
 abbrev pub words_in : ShiftFinder → List (List ℕ)
-words_in s = indexed s.words
+words_in s = indexed s.words.index
 
 -- its half-read lengths
 abbrev pub halves_in : ShiftFinder → List (List ℕ)
-halves_in s = halves_of (indexed s.words) s.register
+halves_in s = halves_of (indexed s.words.index) s.register
 
 -- why mounting is refused: as building is, or else at the first number that building would write otherwise
 abbrev pub Refuses : List ℕ → List ℕ → Fault → Type 0
@@ -29,6 +29,11 @@ abbrev pub Mounts : List ℕ → List ℕ → ShiftFinder → ShiftFinder → Re
 Mounts l table before after (Ok done) =
     (admission_fault l (length table) ≡ None) × (take entries table ≡ table_of (words_of l)) × (words_in after ≡ words_of l) × (halves_in after ≡ at_rest (words_of l))
 Mounts l table before after (Err f) = Refuses l table f × (after ≡ before)
+
+-- a new finder on a list and its table is as one that is mounted on them
+abbrev pub MountsNew : List ℕ → List ℕ → Result ShiftFinder Fault → Type 0
+MountsNew l table (Ok s) = Mounts l table s s (Ok tt)
+MountsNew l table (Err f) = Refuses l table f
 
 -- a table that was built for the list is accepted
 abbrev pub AcceptsBuilt : List ℕ → List ℕ → Result Unit Fault → Type 0

@@ -1,6 +1,7 @@
 -- What the bits of a register mean: bit p says that a half-read string ends at run byte p.
-use Rattle.std.specs.Prelude.{ℕ, zero, suc, ◌+◌, ◌-◌, ◌*◌, ◌/◌, ◌%◌, ◌^◌, Bool, true, List, [], ◌∷◌, length, ◌==◌}
+use Rattle.std.specs.Prelude.{◌≡◌, ℕ, zero, suc, ◌+◌, ◌-◌, ◌*◌, ◌/◌, ◌%◌, ◌^◌, Bool, true, List, [], ◌∷◌, length, ◌==◌}
 use Rattle.finder.specs.Words.{passing}
+use Rattle.shift.specs.declared.edges.Edges.{Edges}
 
 -- bit p of r is set
 abbrev pub bit : ℕ → ℕ → Bool
@@ -29,3 +30,8 @@ firsts_of (w ∷ ws) = 1 + 2 ^ length w * firsts_of ws
 abbrev pub lasts_of : List (List ℕ) → ℕ
 lasts_of [] = 0
 lasts_of (w ∷ ws) = 2 ^ (length w - 1) + 2 ^ length w * lasts_of ws
+
+-- edges of words have those bits
+pub record Marks (ws : List (List ℕ)) (edges : Edges) : Type 0 where
+  pub begins : edges.firsts ≡ firsts_of ws
+  pub ends : edges.lasts ≡ lasts_of ws

@@ -1,6 +1,6 @@
 -- The table of a row of words: for each byte value a number whose bits say where that value stands.
-use Rattle.std.specs.Prelude.{◌≡◌, ℕ, ◌+◌, ◌*◌, ◌<◌, cond, List, [], ◌∷◌, ◌++◌, map, length, ◌==◌, slice_index}
-use Rattle.std.specs.List.{range_with_len}
+use Rattle.std.specs.Prelude.{◌≡◌, ℕ, ◌+◌, ◌*◌, ◌<◌, cond, List, [], ◌∷◌, map, length, ◌==◌, slice_index}
+use Rattle.std.specs.List.{concat, range_with_len}
 use Rattle.finder.specs.Meaning.{ExactlyIf, Bit}
 
 -- how many numbers a table has, one to each byte value
@@ -13,8 +13,7 @@ most_run_bytes = 64
 
 -- the bytes of all words, one word behind the other
 abbrev pub all_bytes : List (List ℕ) → List ℕ
-all_bytes [] = []
-all_bytes (w ∷ ws) = w ++ all_bytes ws
+all_bytes ws = concat ws
 
 -- the number of the byte value c: bit p is set exactly if byte p is c
 abbrev pub number_of : List ℕ → ℕ → ℕ

@@ -8,7 +8,7 @@ ghost use Rattle.words.specs.Sizes.{indexed-few, indexed-sized};
 ghost use Rattle.std.specs.Prelude.{◌≡◌};
 
 use crate::shift::ShiftFinder;
-use bits::take_lowest;
+use bits::SetBits;
 use finder::Finder;
 
 impl<'a> ShiftFinder<'a> {
@@ -16,23 +16,17 @@ impl<'a> ShiftFinder<'a> {
     fn number_at(&self, b: u8) -> u64
         ensures { result ≡ number_of (all_bytes (words_in self.now)) b }
     {
-        let at = b as usize;
-        if at < self.table.len() {
-            self.table[at]
-        } else {
-            0
-        }
+        self.table.get(b as usize).copied().unwrap_or(0)
     }
 
     // The words that are read whole, word k in bit k, by the bits of their last bytes alone.
     fn ended(&self) -> u64
         ensures { result ≡ mask (words_in self.now) (halves_in self.now) }
     {
-        let mut left = self.register & self.lasts;
         let mut found = 0;
-        while let Some(place) = take_lowest(&mut left) {
+        for place in SetBits(self.register & self.edges.lasts) {
             let below = (1u64 << place) - 1;
-            let word = (self.lasts & below).count_ones();
+            let word = (self.edges.lasts & below).count_ones();
             found |= 1u64 << word;
         }
         found
@@ -44,13 +38,13 @@ impl<'a> Finder for ShiftFinder<'a> {
 
     ghost halves = { λ s. halves_in s };
 
-    ghost few = { λ s. indexed-few s.words };
+    ghost few = { λ s. indexed-few s.words.index };
 
-    ghost sized = { λ s. indexed-sized s.words };
+    ghost sized = { λ s. indexed-sized s.words.index };
 
-    ghost paired = { λ s. halves_paired 0 (indexed s.words) s.register };
+    ghost paired = { λ s. halves_paired 0 (indexed s.words.index) s.register };
 
-    ghost begun = { λ s. halves_begun 0 (indexed s.words) s.register };
+    ghost begun = { λ s. halves_begun 0 (indexed s.words.index) s.register };
 
     fn rest(&mut self) {
         self.register = 0;
@@ -58,19 +52,19 @@ impl<'a> Finder for ShiftFinder<'a> {
 
     fn take(&mut self, b: u8) -> u64 {
         let number = self.number_at(b);
-        self.register = ((self.register << 1) | self.firsts) & number;
+        self.register = ((self.register << 1) | self.edges.firsts) & number;
         self.ended()
     }
 
     fn count(&self) -> usize {
-        self.words.count()
+        self.words.index.count()
     }
 
     fn length_of(&self, k: usize) -> usize {
-        self.words.length_of(k)
+        self.words.index.length_of(k)
     }
 
     fn byte_of(&self, k: usize, i: usize) -> u8 {
-        self.words.byte_of(k, i)
+        self.words.index.byte_of(k, i)
     }
 }

@@ -1,12 +1,10 @@
 // The shift finder: all words in the bits of one register, for lists of few run bytes.
 #![tactic(auto)]
 
-mod admit;
 mod as_finder;
-mod compare;
 mod edges;
 mod mount;
-mod number;
+mod narrow;
 mod shift;
 mod table;
 

@@ -1,13 +1,11 @@
 // Making a shift finder, and putting it on a list and its table.
-ghost use Rattle.shift.specs.Mounting.{AcceptsBuilt, Mounts, words_in};
+ghost use Rattle.shift.specs.Mounting.{AcceptsBuilt, Mounts, MountsNew, words_in};
 ghost use Rattle.std.specs.Prelude.{◌≡◌, []};
 
-use crate::admit::admit;
-use crate::compare::compare;
 use crate::edges::Edges;
+use crate::narrow::Narrow;
 use crate::shift::ShiftFinder;
 use landmark::Fault;
-use words::Words;
 
 impl<'a> ShiftFinder<'a> {
     // A finder without words.
@@ -15,11 +13,10 @@ impl<'a> ShiftFinder<'a> {
         ensures { words_in result ≡ [] }
     {
         ShiftFinder {
-            words: Words::none(),
+            words: Narrow::none(),
             table: &[],
             register: 0,
-            firsts: 0,
-            lasts: 0,
+            edges: Edges::default(),
         }
     }
 
@@ -28,17 +25,24 @@ impl<'a> ShiftFinder<'a> {
         ensures exact { Mounts list.now table.now self.old self.new result }
         ensures law { AcceptsBuilt list.now table.now result }
     {
-        admit(list, table.len())?;
-        let words = Words::of(list);
-        compare(&words, table)?;
-        let edges = Edges::of(&words);
+        let words = Narrow::admit(list, table.len())?;
+        words.compare(table)?;
         *self = ShiftFinder {
+            edges: words.edges(),
             words,
             table,
             register: 0,
-            firsts: edges.firsts,
-            lasts: edges.lasts,
         };
         Ok(())
+    }
+
+    // A new finder on the list's words, at rest, as mounting one puts it there. The link finder has the like: a trait for
+    // both would need each one's table and laws as its members, for these three lines.
+    pub fn mounted(list: &'a [u8], table: &'a [u64]) -> Result<ShiftFinder<'a>, Fault>
+        ensures { MountsNew list.now table.now result }
+    {
+        let mut finder = ShiftFinder::new();
+        finder.mount(list, table)?;
+        Ok(finder)
     }
 }

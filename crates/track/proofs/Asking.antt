@@ -29,7 +29,7 @@ uncapped n h = omega arith
 -- the smallest end answers for an open gap
 first_answers : (told : ℕ → Type 0) (least start : ℕ) (o : Option ℕ) → IsFirst told o
     → ExactlyIf ((first : ℕ) × (o ≡ Some first) × (first + least ≤ start)) (KeptFrom told (record { least = least; greatest = None }) start)
-first_answers told least start None none = (λ (f, is, _). let z : ◌≡◌ {A = ℕ} 0 1 = cc in absurd (omega arith), λ (q, here, _). absurd (none q here))
+first_answers told least start None none = (λ (f, is, _). absurd (cc), λ (q, here, _). absurd (none q here))
 first_answers told least start (Some e) (here, smallest) = (
   λ (f, is, keeps). let same : e ≡ f = cc in (e, here, (omega arith, tt)),
   λ (q, there, keeps). let before = smallest q there in (e, refl, omega arith),

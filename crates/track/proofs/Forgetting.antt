@@ -1,13 +1,12 @@
 -- The windows forget an end, one active word after another.
-use Rattle.std.proofs.Common.{◌≡◌, ℕ, ◌%◌, ◌<◌, false, ◌⊎◌, List, sym, refl, ◌∙◌, subst, inl, inr, ⊎_elim}
+use Rattle.std.proofs.Common.{◌≡◌, ℕ, ◌%◌, ◌<◌, false, ◌⊎◌, List, sym, ◌∙◌, subst, inl, inr, ⊎_elim}
 use Rattle.std.proofs.lemmas.Bool.{cases_eq, false≢true}
 use Rattle.finder.specs.Meaning.{Bit, ExactlyIf}
 use Rattle.bits.specs.Lowest.{Lowest}
-use Rattle.bits.proofs.Bits.{bit-of_zero, same_bit}
+use Rattle.bits.proofs.Bits.{same_bit}
 use Rattle.window.specs.Bits.{with_bit}
 use Rattle.window.specs.Windows.{Empty, Marked, Marks, span}
 use Rattle.window.proofs.Bits.{with_bit-other}
-use Rattle.track.specs.Telling.{Forgets}
 use Rattle.track.specs.Tracking.{ActiveTells}
 use Rattle.track.specs.declared.tracks.Tracks.{Tracks}
 
@@ -20,29 +19,8 @@ pub record Forgetting (before : Tracks) (end left : ℕ) (t : Tracks) : Type 0 w
   pub active : ActiveTells before → ActiveTells t
   pub fewer : (k c : ℕ) → c < span → Marked t.windows.numbers k c → Marked before.windows.numbers k c
 
--- at first no active word has, and the others have nothing to forget
-pub forgetting_none : (before : Tracks) (end : ℕ) → Forgetting before end before.active before
-forgetting_none before end = record {
-  ends = refl;
-  firsts = refl;
-  done = λ tells k c h g other. (λ m. absurd (tells k h other c g m), λ m. m.0);
-  still = λ k c g bit. (λ m. m, λ m. m);
-  active = λ tells. tells;
-  fewer = λ k c g m. m;
-}
-
--- at last every word has
-pub forgetting_all : (before : Tracks) (end : ℕ) (t : Tracks) → Forgetting before end 0 t → Forgets before end t
-forgetting_all before end t f = record {
-  ends = f.ends;
-  firsts = f.firsts;
-  bits = λ tells k c h g. f.done tells k c h g (bit-of_zero k);
-  active = f.active;
-  fewer = f.fewer;
-}
-
 -- a bit cleared marks no more than was marked
-marks_fewer : (xs ys : List ℕ) (p end : ℕ) → p < 64 → Marks xs p end false ys → (k c : ℕ) → c < span → Marked ys k c → Marked xs k c
+marks_fewer : (xs ys : List (List ℕ)) (p end : ℕ) → p < 64 → Marks xs p end false ys → (k c : ℕ) → c < span → Marked ys k c → Marked xs k c
 marks_fewer xs ys p end few marks k c g set =
     ⊎_elim
     (λ own. ⊎_elim
@@ -53,7 +31,7 @@ marks_fewer xs ys p end few marks k c g set =
     (cases_eq k p)
 
 -- a word that is active no more was not so before, or has an empty window now
-abbrev pub FewerActive : ℕ → ℕ → ℕ → List ℕ → Type 0
+abbrev pub FewerActive : ℕ → ℕ → ℕ → List (List ℕ) → Type 0
 FewerActive active p fewer ys = (k : ℕ) → k < 64 → (Bit fewer k → ⊥) → (Bit active k → ⊥) ⊎ ((k ≡ p) × Empty ys p)
 
 -- one more word forgets the end
@@ -94,11 +72,11 @@ forgetting_more before end left p rest t u low ends firsts marks fewer f =
         (cases_eq c (end % span))
 
 -- the active words stay
-pub active_kept : (active p : ℕ) (ys : List ℕ) → FewerActive active p active ys
+pub active_kept : (active p : ℕ) (ys : List (List ℕ)) → FewerActive active p active ys
 active_kept active p ys k h none = inl none
 
 -- a word with an empty window is active no more
-pub active_fewer : (active p fewer : ℕ) (ys : List ℕ) → p < 64 → fewer ≡ with_bit active p false → Empty ys p → FewerActive active p fewer ys
+pub active_fewer : (active p fewer : ℕ) (ys : List (List ℕ)) → p < 64 → fewer ≡ with_bit active p false → Empty ys p → FewerActive active p fewer ys
 active_fewer active p fewer ys few cleared empty k h none =
     ⊎_elim (λ own. inr (own, empty))
     (λ apart. inl (λ bit. none (subst (λ a. Bit a k) (sym cleared) ((same_bit (with_bit-other active p k false few h apart)).1 bit))))

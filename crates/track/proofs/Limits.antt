@@ -35,7 +35,7 @@ steps_limited [] m is good = absurd (subst BeginsWithAWord is good.begins)
 steps_limited (s ∷ ss) m is good = chain-limited s ss (subst (AllByRecursion GoodStep) is good.steps)
 
 good_at : (ms : List Landmark) (i : ℕ) (x : Landmark) → AllByRecursion GoodLandmark ms → slice_get ms i ≡ Some x → GoodLandmark x
-good_at [] i x goods there = let z : ◌≡◌ {A = ℕ} 0 1 = cc in absurd (omega arith)
+good_at [] i x goods there = absurd (cc)
 good_at (m ∷ ms) zero x (good, goods) there = let is : m ≡ x = cc in subst GoodLandmark is good
 good_at (m ∷ ms) (suc i) x (good, goods) there = good_at ms i x goods there
 

@@ -1,6 +1,7 @@
 -- What a plan says of the words of its landmarks.
-use Rattle.std.proofs.Common.{◌≡◌, ℕ, zero, suc, ◌+◌, ◌-◌, ◌<◌, ◌≤◌, List, [], ◌∷◌, map, length, Some, None, Option, sym, refl, ap, ◌∙◌, ⊎_elim, arith}
-use Rattle.std.proofs.lemmas.Option.{slice_get_past as nth_past}
+use Rattle.std.proofs.Common.{◌≡◌, ℕ, zero, suc, ◌+◌, ◌-◌, ◌<◌, ◌≤◌, List, Some, None, Option, sym, refl, ap, ◌∙◌, ⊎_elim, arith}
+use Rattle.std.proofs.lemmas.Option.{slice_get-map, slice_get_within}
+use Rattle.std.specs.Option.{option_map}
 use Rattle.std.proofs.lemmas.Bool.{cases_lt, cond-true, cond-false, lt-ltb, le-ltb}
 use Rattle.std.specs.List.{slice_get}
 use Rattle.occurrence.specs.Occurrence.{Pattern}
@@ -14,24 +15,10 @@ use Rattle.plan.proofs.SeatLaws.{one_seat, stands}
 use Rattle.track.specs.Telling.{rear_by_front, rear_by_next}
 use Rattle.track.specs.Tracking.{by_greatest, nothing, rear}
 
--- what a map has at a place
-abbrev mapped : {X Y : Type 0} → (X → Y) → Option X → Option Y
-mapped f None = None
-mapped f (Some x) = Some (f x)
-
-nth_map : {X Y : Type 0} (f : X → Y) (xs : List X) (i : ℕ) → slice_get (map f xs) i ≡ mapped f (slice_get xs i)
-nth_map f [] i = refl
-nth_map f (x ∷ xs) zero = refl
-nth_map f (x ∷ xs) (suc i) = nth_map f xs i
-
-mapped-some : {X Y : Type 0} (f : X → Y) (o : Option X) (y : Y) → mapped f o ≡ Some y → (x : X) × (o ≡ Some x) × (f x ≡ y)
-mapped-some f None y is = let z : ◌≡◌ {A = ℕ} 0 1 = cc in absurd (omega arith)
-mapped-some f (Some x) y is = (x, refl, cc)
-
--- a place that has something lies within the list
-nth_within : {X : Type 0} (xs : List X) (i : ℕ) (x : X) → slice_get xs i ≡ Some x → i < length xs
-nth_within xs i x there =
-    ⊎_elim (λ within. within) (λ past. let none = nth_past xs i past in let z : ◌≡◌ {A = ℕ} 0 1 = cc in absurd (omega arith)) (cases_lt i (length xs))
+-- what has a value once mapped had one before
+some_before-map : {X Y : Type 0} (f : X → Y) (o : Option X) (y : Y) → option_map f o ≡ Some y → (x : X) × (o ≡ Some x) × (f x ≡ y)
+some_before-map f None y is = absurd (cc)
+some_before-map f (Some x) y is = (x, refl, cc)
 
 -- the rear of a word that has a word behind it in its landmark, and of the last one
 pub rear-inner : (s : Seat) → s.index < more_words s.pattern → rear s ≡ by_greatest (gap_behind s.pattern s.index).greatest
@@ -47,27 +34,27 @@ rear-capped (Some n) = refl
 
 module _ (p : Plan) (ms : List Landmark) (plan : PlanOf p ms) where
   -- the spot of every place is that of its seat
-  spot_at : (k : ℕ) → slice_get (spots_of p) k ≡ mapped spot_of (slice_get (seats 0 ms) k)
-  spot_at k = ap (λ l. slice_get l k) plan.spots ∙ nth_map spot_of (seats 0 ms) k
+  spot_at : (k : ℕ) → slice_get (spots_of p) k ≡ option_map spot_of (slice_get (seats 0 ms) k)
+  spot_at k = ap (λ l. slice_get l k) plan.spots ∙ slice_get-map spot_of (seats 0 ms) k
 
   seat_spot : (k : ℕ) (s : Seat) → slice_get (seats 0 ms) k ≡ Some s → slice_get (spots_of p) k ≡ Some (spot_of s)
-  seat_spot k s there = spot_at k ∙ ap (mapped spot_of) there
+  seat_spot k s there = spot_at k ∙ ap (option_map spot_of) there
 
   pub spot_seat : (k : ℕ) (spot : Spot) → slice_get (spots_of p) k ≡ Some spot → (s : Seat) × (slice_get (seats 0 ms) k ≡ Some s) × (spot_of s ≡ spot)
-  spot_seat k spot there = mapped-some spot_of (slice_get (seats 0 ms) k) spot (sym (spot_at k) ∙ there)
+  spot_seat k spot there = some_before-map spot_of (slice_get (seats 0 ms) k) spot (sym (spot_at k) ∙ there)
 
   pub no_seat : (k : ℕ) (s : Seat) → slice_get (spots_of p) k ≡ None → slice_get (seats 0 ms) k ≡ Some s → ⊥
-  no_seat k s none there = let some = seat_spot k s there in let z : ◌≡◌ {A = ℕ} 0 1 = cc in omega arith
+  no_seat k s none there = let some = seat_spot k s there in absurd (cc)
 
   -- there are at most 64 words and 32 landmarks
   pub seat_few : (k : ℕ) (s : Seat) → slice_get (seats 0 ms) k ≡ Some s → k < 64
-  seat_few k s there = let within = nth_within (seats 0 ms) k s there in let few = p.few_words in let count = plan.words in omega arith
+  seat_few k s there = let within = slice_get_within (seats 0 ms) k s there in let few = p.spots.few in let count = plan.words in omega arith
 
   pub landmark_few : (k : ℕ) (s : Seat) → slice_get (seats 0 ms) k ≡ Some s → s.landmark < 32
   landmark_few k s there =
       let (x, at, _) = (stands 0 ms k s there).landmark in
-      let within = nth_within ms (s.landmark - 0) x at in
-      let few = p.few in let count = plan.landmarks in omega arith
+      let within = slice_get_within ms (s.landmark - 0) x at in
+      let few = p.roles.few in let count = plan.landmarks in omega arith
 
   -- the spot of the next word says what lies behind a word
   pub seat_rear : (k : ℕ) (s : Seat) → slice_get (seats 0 ms) k ≡ Some s → rear_by_next (slice_get (spots_of p) (k + 1)) ≡ rear s
@@ -88,7 +75,7 @@ module _ (p : Plan) (ms : List Landmark) (plan : PlanOf p ms) where
       first_front q zero is = refl
       first_front q (suc i) is = absurd (omega arith)
 
-      first_or_none : (o : Option Seat) → ((t : Seat) → o ≡ Some t → t.index ≡ 0) → rear_by_next (mapped spot_of o) ≡ nothing
+      first_or_none : (o : Option Seat) → ((t : Seat) → o ≡ Some t → t.index ≡ 0) → rear_by_next (option_map spot_of o) ≡ nothing
       first_or_none None first = refl
       first_or_none (Some t) first = first_front t.pattern t.index (first t refl)
 

@@ -20,7 +20,7 @@ use Rattle.track.proofs.Telling.{kept_same}
 use Rattle.track.proofs.Told.{reached_old_within, told_none}
 
 -- a window that has forgotten the end holds the ends of the bytes before it
-holds-forgotten : (P Q : ℕ → Type 0) (taken : ℕ) (xs ys : List ℕ) (k : ℕ) → ((d : ℕ) → ExactlyIf (P d) (Q d)) → ((d : ℕ) → P d → d ≤ taken)
+holds-forgotten : (P Q : ℕ → Type 0) (taken : ℕ) (xs ys : List (List ℕ)) (k : ℕ) → ((d : ℕ) → ExactlyIf (P d) (Q d)) → ((d : ℕ) → P d → d ≤ taken)
     → ((b : ℕ) → b < span → ExactlyIf (Marked ys k b) (Marked xs k b × (b ≡ (taken + 1) % span → ⊥))) → HoldsEnds P taken xs k → HoldsEnds Q (taken + 1) ys k
 holds-forgotten P Q taken xs ys k same within bits holds b small = (
   λ set.

@@ -3,7 +3,6 @@ use Rattle.std.proofs.Common.{◌≡◌, ℕ, ◌+◌, List, [], ◌∷◌, ◌+
 use Rattle.std.proofs.lemmas.List.{length-append}
 use Rattle.std.specs.List.{slice_get}
 use Rattle.finder.specs.Meaning.{Bit}
-use Rattle.bits.specs.Lowest.{Lowest}
 use Rattle.occurrence.specs.Occurrence.{Ends}
 use Rattle.reach.specs.Reached.{nth_word}
 use Rattle.landmark.specs.Grammar.{Landmark, WellFormed}
@@ -48,17 +47,6 @@ module _ (p : Plan) (t : Tracks) (k end : ℕ) (spot : Spot) (there : slice_get 
 pub record Taken (p : Plan) (t : Tracks) (ending end left : ℕ) (u : Tracks) : Type 0 where
   pub told : (ms : List Landmark) (image : List ℕ) → WellFormed ms → PlanOf p ms → end ≡ length image → BitsTell ms image ending → Telling ms image ending t → Telling ms image left u
   pub fewer : (k : ℕ) → Bit left k → Bit ending k
-
-pub taken_none : (p : Plan) (t : Tracks) (ending end : ℕ) → Taken p t ending end ending t
-taken_none p t ending end = record { told = λ ms image good plan at tell telling. telling; fewer = λ k bit. bit }
-
-pub taken_more : (p : Plan) (t : Tracks) (ending end left k rest : ℕ) (u v : Tracks) → Lowest left k rest → TakesWord p u k end v → Taken p t ending end left u → Taken p t ending end rest v
-taken_more p t ending end left k rest u v low takes taken = record {
-  told = λ ms image good plan at tell telling. takes ms image left rest good plan at low
-      (λ s there. subst (Ends (nth_word s.pattern s.index) image) (sym at) ((tell k s there).0 (taken.fewer k low.set)))
-      (taken.told ms image good plan at tell telling);
-  fewer = λ i bit. taken.fewer i ((low.others i).0 bit).0;
-}
 
 -- where the end was forgotten first and no bit is left, the byte is taken
 pub taken_all : (p : Plan) (before t : Tracks) (ending end left : ℕ) (u : Tracks) → Forgets before end t → left ≡ 0 → Taken p t ending end left u → Takes p before ending end u

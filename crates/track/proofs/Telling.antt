@@ -47,7 +47,7 @@ first_filled P Q e xs ys i within is one first =
     subst (IsFirst Q) (sym (ap (λ l. get_or l i None) is ∙ get_or-set_same xs i _ None within)) (first_put P Q e (get_or xs i None) one first)
 
 -- the window in which e is marked
-holds-marked : (P Q : ℕ → Type 0) (e : ℕ) (xs ys : List ℕ) (k : ℕ) → k < 64 → 1 ≤ e → OneMore P Q e → Marks xs k e true ys → HoldsEnds P e xs k → HoldsEnds Q e ys k
+holds-marked : (P Q : ℕ → Type 0) (e : ℕ) (xs ys : List (List ℕ)) (k : ℕ) → k < 64 → 1 ≤ e → OneMore P Q e → Marks xs k e true ys → HoldsEnds P e xs k → HoldsEnds Q e ys k
 holds-marked P Q e xs ys k few some one marks holds b small =
     ⊎_elim
     (λ at. (λ _. (e, (some, omega arith, omega arith), sym at, one.here), λ _. subst (Marked ys k) (sym at) ((marks.told few).1 refl)))
@@ -106,8 +106,8 @@ last_index ms k s there is =
     ⊎_elim (λ inner. absurd (some_gap (gap_behind s.pattern s.index).greatest (sym (rear-inner s inner) ∙ is))) (λ past. omega (arith, (stands 0 ms k s there).within)) (cases_lt s.index (more_words s.pattern))
   where
     some_gap : (o : Option ℕ) → by_greatest o ≡ nothing → ⊥
-    some_gap None e = let z : ◌≡◌ {A = ℕ} 0 1 = cc in omega arith
-    some_gap (Some n) e = let z : ◌≡◌ {A = ℕ} 0 1 = cc in omega arith
+    some_gap None e = absurd (cc)
+    some_gap (Some n) e = absurd (cc)
 
 module _ (ms : List Landmark) (image : List ℕ) (left k rest : ℕ) (t : Tracks) (low : Lowest left k rest) (telling : Telling ms image left t) where
   -- the bit of every other word is as it was

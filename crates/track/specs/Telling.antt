@@ -11,8 +11,6 @@ use Rattle.window.specs.Bits.{with_bit}
 use Rattle.landmark.specs.Grammar.{Landmark, WellFormed}
 use Rattle.landmark.specs.declared.spacing.Spacing.{Spacing}
 use Rattle.plan.specs.Seats.{Seat, PlanOf, seats}
-use Rattle.plan.specs.declared.plan.Front.{Front}
-use Rattle.plan.specs.declared.plan.Front.TheVariants.{First, Behind}
 use Rattle.plan.specs.declared.plan.Plan.{Plan}
 use Rattle.plan.specs.declared.plan.Spot.{Spot}
 use Rattle.track.specs.Tracking.{ActiveTells, Kept, OnlyBounded, ReachedAt, Rear, bounded, by_greatest, nothing, open_gap}
@@ -35,17 +33,17 @@ abbrev pub KeepsAfter : Tracks → ℕ → Spacing → ℕ → Type 0
 KeepsAfter t k spacing start = KeepsAs spacing.greatest t k spacing.least start
 
 -- word k, of this size, is reached at an end by what the tracks have
-abbrev pub ReachedBehind : Front → Tracks → ℕ → ℕ → ℕ → Type 0
-ReachedBehind First t k size end = Unit {0}
-ReachedBehind (Behind spacing) t k size end = (0 < k) × (size ≤ end) × KeepsAfter t (k - 1) spacing (end - size)
+abbrev pub ReachedBehind : Option Spacing → Tracks → ℕ → ℕ → ℕ → Type 0
+ReachedBehind None t k size end = Unit {0}
+ReachedBehind (Some spacing) t k size end = (0 < k) × (size ≤ end) × KeepsAfter t (k - 1) spacing (end - size)
 
 abbrev pub ReachedBy : Tracks → Spot → ℕ → ℕ → Type 0
 ReachedBy t spot k end = ReachedBehind spot.front t k spot.length end
 
 -- what lies behind a word, by the front of the word that is next in the list
-abbrev pub rear_by_front : Front → Rear
-rear_by_front First = nothing
-rear_by_front (Behind spacing) = by_greatest spacing.greatest
+abbrev pub rear_by_front : Option Spacing → Rear
+rear_by_front None = nothing
+rear_by_front (Some spacing) = by_greatest spacing.greatest
 
 abbrev pub rear_by_next : Option Spot → Rear
 rear_by_next None = nothing

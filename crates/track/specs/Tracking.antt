@@ -5,6 +5,7 @@ use Rattle.finder.specs.Meaning.{Bit}
 use Rattle.reach.specs.Reached.{Reached, more_words, gap_behind}
 use Rattle.window.specs.Windows.{Empty, HoldsEnds, cleared}
 use Rattle.landmark.specs.Grammar.{Landmark}
+use Rattle.landmark.specs.Lists.{most_landmarks, most_words}
 use Rattle.plan.specs.Seats.{Seat, seats}
 use Rattle.track.specs.declared.tracks.Tracks.{Tracks}
 
@@ -54,7 +55,7 @@ pub record TracksOf (ms : List Landmark) (image : List ℕ) (t : Tracks) : Type 
 
 -- nothing is found
 pub record NothingFound (t : Tracks) : Type 0 where
-  pub ends : t.ends ≡ replicate 32 None
-  pub firsts : t.firsts ≡ replicate 64 None
+  pub ends : t.ends ≡ replicate most_landmarks None
+  pub firsts : t.firsts ≡ replicate most_words None
   pub windows : t.windows.numbers ≡ cleared
   pub active : t.active ≡ 0

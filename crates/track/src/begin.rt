@@ -3,6 +3,8 @@ ghost use Rattle.track.specs.Tracking.{NothingFound};
 ghost use Rattle.std.specs.Prelude.{◌≡◌, None, slice_index_or};
 
 use crate::tracks::Tracks;
+use crate::word::kept_at;
+use landmark::{MOST_LANDMARKS, MOST_WORDS};
 use window::Windows;
 
 impl Tracks {
@@ -11,8 +13,8 @@ impl Tracks {
         ensures { NothingFound result }
     {
         Tracks {
-            ends: [None; 32],
-            firsts: [None; 64],
+            ends: [None; MOST_LANDMARKS],
+            firsts: [None; MOST_WORDS],
             windows: Windows::new(),
             active: 0,
         }
@@ -22,20 +24,13 @@ impl Tracks {
     pub fn clear(&mut self)
         ensures { NothingFound self.new }
     {
-        self.ends = [None; 32];
-        self.firsts = [None; 64];
-        self.windows.clear();
-        self.active = 0;
+        *self = Tracks::new();
     }
 
     // The end of a landmark, where one is found.
     pub fn end_of(&self, landmark: usize) -> Option<usize>
         ensures { result ≡ slice_index_or self.now.ends landmark None }
     {
-        if landmark < 32 {
-            self.ends[landmark]
-        } else {
-            None
-        }
+        kept_at(&self.ends, landmark)
     }
 }

@@ -2,7 +2,7 @@
 ghost use Rattle.track.specs.Stepping.{Takes};
 
 use crate::tracks::Tracks;
-use bits::take_lowest;
+use bits::SetBits;
 use plan::Plan;
 
 impl Tracks {
@@ -11,8 +11,7 @@ impl Tracks {
         ensures { Takes plan.now self.old ending end self.new }
     {
         self.forget(end);
-        let mut left = ending;
-        while let Some(word) = take_lowest(&mut left) {
+        for word in SetBits(ending) {
             self.take_word(plan, word, end);
         }
     }

@@ -1,43 +1,39 @@
-ghost use Rattle.std.specs.Prelude.{◌≡◌, ◌*◌, ◌/◌, ◌<◌, ◌≤◌, length, Decides};
-ghost use Rattle.window.specs.Bits.{Masks, MasksNumber, SomeBit, SomeBitAround};
-ghost use Rattle.window.specs.Windows.{Empty, SomeMarked, number_bits, span};
+ghost use Rattle.std.specs.Prelude.{◌/◌, ◌<◌, ◌≤◌, Decides};
+ghost use Rattle.window.specs.Bits.{Masks, SomeBit, SomeBitAround, SomeBitIn};
+ghost use Rattle.window.specs.Windows.{Empty, NoBit, SomeMarked, number_bits, span};
 
-use crate::windows::{BITS, NUMBERS, SPAN, WORDS, Windows};
+use crate::windows::{BITS, NUMBERS, SPAN, Windows};
 
 impl Windows {
     // Whether the word is marked at some end from low to high: not where there is no such word.
     pub fn any_between(&self, word: usize, low: usize, high: usize) -> bool
         ensures { Decides result (SomeMarked self.now.numbers word low high) }
     {
-        if word >= WORDS || low > high {
-            return false;
-        }
-        any_around(
-            &self.numbers[NUMBERS * word..NUMBERS * word + NUMBERS],
-            low,
-            high,
-        )
+        low <= high
+            && self
+                .numbers
+                .get(word)
+                .is_some_and(|window| any_around(window, low, high))
     }
 
     // Whether the word is marked at no end: so it is where there is no such word.
     pub fn is_empty(&self, word: usize) -> bool
         ensures { Decides result (Empty self.now.numbers word) }
     {
-        if word >= WORDS {
-            return true;
-        }
-        for number in &self.numbers[NUMBERS * word..NUMBERS * word + NUMBERS] {
-            if *number != 0 {
-                return false;
-            }
-        }
-        true
+        self.numbers.get(word).is_none_or(has_no_bit)
     }
 }
 
+// Whether no bit of a window is set.
+fn has_no_bit(window: &[u64; NUMBERS]) -> bool
+    ensures { Decides result (NoBit window.now) }
+{
+    window.iter().all(|number| *number == 0)
+}
+
 // Whether a window has the bit of some end from low to high: the bits may go around its end.
-fn any_around(window: &[u64], low: usize, high: usize) -> bool
-    requires { (number_bits * length window.now ≡ span) × (low ≤ high) }
+fn any_around(window: &[u64; NUMBERS], low: usize, high: usize) -> bool
+    requires { low ≤ high }
     ensures { Decides result (SomeBitAround window.now low high) }
 {
     let first = low % SPAN;
@@ -52,30 +48,21 @@ fn any_around(window: &[u64], low: usize, high: usize) -> bool
 }
 
 // Whether a window has some bit from first to last.
-fn any_in(window: &[u64], first: usize, last: usize) -> bool
-    requires { last < number_bits * length window.now }
+fn any_in(window: &[u64; NUMBERS], first: usize, last: usize) -> bool
+    requires { last < span }
     ensures { Decides result (SomeBit window.now first last) }
 {
-    for i in first / BITS..=last / BITS {
-        if window[i] & mask_of(i, first, last) != 0 {
-            return true;
-        }
-    }
-    false
+    (first / BITS..=last / BITS).any(|i| any_in_number(window, i, first, last))
 }
 
-// The mask of a window's bits from first to last that number i has.
-fn mask_of(i: usize, first: usize, last: usize) -> u64
-    requires { (first / number_bits ≤ i) × (i ≤ last / number_bits) }
-    ensures { MasksNumber i first last result }
+// Whether a window has some bit from first to last in its number i.
+fn any_in_number(window: &[u64; NUMBERS], i: usize, first: usize, last: usize) -> bool
+    requires { (first / number_bits ≤ i) × (i ≤ last / number_bits) × (last < span) }
+    ensures { Decides result (SomeBitIn window.now i first last) }
 {
-    let from = if i == first / BITS { first % BITS } else { 0 };
-    let to = if i == last / BITS {
-        last % BITS
-    } else {
-        BITS - 1
-    };
-    mask(from, to)
+    let from = first.saturating_sub(BITS * i);
+    let to = (last - BITS * i).min(BITS - 1);
+    window[i] & mask(from, to) != 0
 }
 
 // The mask of a number's bits from one place to another.

@@ -1,8 +1,8 @@
-ghost use Rattle.std.specs.Prelude.{◌≡◌, ◌*◌, ◌/◌, ◌%◌, ◌<◌, length, slice_index, slice_set};
-ghost use Rattle.window.specs.Bits.{with_bit};
-ghost use Rattle.window.specs.Windows.{Marks, cleared, number_bits};
+ghost use Rattle.std.specs.Prelude.{◌≡◌, ◌<◌};
+ghost use Rattle.window.specs.Bits.{MakesBit};
+ghost use Rattle.window.specs.Windows.{Marks, cleared, span};
 
-use crate::windows::{ALL_NUMBERS, BITS, NUMBERS, SPAN, WORDS, Windows};
+use crate::windows::{BITS, NUMBERS, SPAN, WORDS, Windows};
 
 impl Windows {
     // Windows in which nothing is marked.
@@ -10,7 +10,7 @@ impl Windows {
         ensures { result.numbers ≡ cleared }
     {
         Windows {
-            numbers: [0; ALL_NUMBERS],
+            numbers: [[0; NUMBERS]; WORDS],
         }
     }
 
@@ -18,27 +18,25 @@ impl Windows {
     pub fn clear(&mut self)
         ensures { self.new.numbers ≡ cleared }
     {
-        self.numbers = [0; ALL_NUMBERS];
+        *self = Windows::new();
     }
 
     // Makes the bit of the end in the word's window say whether the word was reached there.
     pub fn mark(&mut self, word: usize, end: usize, reached: bool)
         ensures { Marks self.old.numbers word end reached self.new.numbers }
     {
+        // With `get_mut` the proof does not close: it says nothing of the other windows.
         if word < WORDS {
-            set_bit(
-                &mut self.numbers[NUMBERS * word..NUMBERS * word + NUMBERS],
-                end % SPAN,
-                reached,
-            );
+            let windows = &mut self.numbers;
+            set_bit(&mut windows[word], end % SPAN, reached);
         }
     }
 }
 
 // Makes one bit of a window what is told.
-fn set_bit(window: &mut [u64], at: usize, value: bool)
-    requires { at < number_bits * length window.old }
-    ensures { window.new ≡ slice_set window.old (at / number_bits) (with_bit (slice_index window.old (at / number_bits)) (at % number_bits) value) }
+fn set_bit(window: &mut [u64; NUMBERS], at: usize, value: bool)
+    requires { at < span }
+    ensures { MakesBit window.old at value window.new }
 {
     let bit = 1u64 << (at % BITS);
     if value {

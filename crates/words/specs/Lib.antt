@@ -1,3 +1,3 @@
-pub mod Places
 pub mod Index
+pub mod RunSized
 pub mod Sizes

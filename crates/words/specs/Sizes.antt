@@ -1,37 +1,25 @@
 -- How many words an index has, and how long they are.
-use Rattle.std.specs.Prelude.{◌≡◌, ℕ, ◌+◌, ◌<◌, ◌≤◌, List, [], length, slice_index, slice_index_or}
-use Rattle.std.proofs.Common.{ap, ◌∙◌, arith}
-use Rattle.std.proofs.lemmas.List.FromFn.{length-map-range_with_len, get_or-map-range_with_len}
-use Rattle.std.proofs.lemmas.List.{length-take, length-drop}
-use Rattle.landmark.specs.Records.{longest_run}
+use Rattle.std.specs.Prelude.{◌≡◌, ℕ, ◌<◌, ◌≤◌, List, [], length, slice_index_or}
+use Rattle.std.specs.Borrow.{Bor}
+use Rattle.std.proofs.Common.{subst, arith}
+use Rattle.std.proofs.lemmas.List.{length-map, get_or-map}
 use Rattle.landmark.specs.Lists.{most_words}
-use Rattle.words.specs.Places.{part_at}
-use Rattle.words.specs.Index.{indexed}
+use Rattle.words.specs.RunSized.{RunSized}
+use Rattle.words.specs.Index.{indexed, slices}
 use Rattle.words.specs.declared.words.Words.{Words}
 
--- a part inside a list has the length asked for
-pub length_part : (l : List ℕ) (p n : ℕ) → p + n ≤ length l → length (part_at l p n) ≡ n
-length_part l p n fits = simp (length-take, length-drop) (omega arith)
-
--- an index has as many words as it counts
-pub length-indexed : (w : Words) → length (indexed w) ≡ w.count
-length-indexed w = length-map-range_with_len _ 0 w.count
-
--- word k is the part of the list at its place
-pub word-indexed : (w : Words) (k : ℕ) → k < w.count → slice_index_or (indexed w) k [] ≡ part_at w.list.now (slice_index w.places k) (slice_index w.lengths k)
-word-indexed w k within = get_or-map-range_with_len _ 0 w.count k k [] within (omega arith)
-
--- word k has the length that the index gives
-pub length-word : (w : Words) (k : ℕ) → k < w.count → length (slice_index_or (indexed w) k []) ≡ slice_index w.lengths k
-length-word w k within = ap length (word-indexed w k within) ∙ length_part w.list.now (slice_index w.places k) (slice_index w.lengths k) (w.inside k within).0
+-- an index has as many words as slices
+pub length-indexed : (w : Words) → length (indexed w) ≡ length (slices w)
+length-indexed w = length-map (slices w) (λ s. s.now)
 
 -- an index has few words
 pub indexed-few : (w : Words) → length (indexed w) ≤ most_words
 indexed-few w = omega (arith, length-indexed w, w.few)
 
 -- each word has at least one byte, and no more than a run may have
-pub indexed-sized : (w : Words) (k : ℕ) → k < length (indexed w) → (0 < length (slice_index_or (indexed w) k [])) × (length (slice_index_or (indexed w) k []) ≤ longest_run)
-indexed-sized w k within =
-    let counted : k < w.count = omega (arith, length-indexed w) in
-    let inside = w.inside k counted in
-    (omega (arith, length-word w k counted, inside.1), omega (arith, length-word w k counted, inside.2))
+pub indexed-sized : (w : Words) (k : ℕ) → k < length (indexed w) → RunSized (slice_index_or (indexed w) k [])
+indexed-sized w k within = w.sized k (omega (arith, length-indexed w))
+
+-- so has each slice, which is the word at its place
+pub slices-sized : (w : Words) (k : ℕ) (other : Bor (List ℕ)) → k < length (slices w) → RunSized (slice_index_or (slices w) k other).now
+slices-sized w k other within = subst RunSized (get_or-map (λ s. s.now) (slices w) k other [] within) (indexed-sized w k (simp length-map within))

@@ -1,34 +1,37 @@
 // What an index is asked.
 ghost use Rattle.landmark.specs.Grammar.{sizes};
-ghost use Rattle.words.specs.Index.{indexed};
+ghost use Rattle.words.specs.Index.{indexed, slices};
 ghost use Rattle.std.specs.Prelude.{◌≡◌, [], length, slice_index, slice_index_or};
 
 use crate::words::Words;
 
 impl<'a> Words<'a> {
+    // The words, in order.
+    pub fn as_slice(&self) -> &[&'a [u8]]
+        ensures { result.now ≡ slices self.now }
+    {
+        self.words.as_slice()
+    }
+
     // How many words there are.
     pub fn count(&self) -> usize
         ensures { result ≡ length (indexed self.now) }
     {
-        self.count
+        self.words.len()
     }
 
     // How many bytes all words have together.
     pub fn run_bytes(&self) -> usize
         ensures { result ≡ sizes (indexed self.now) }
     {
-        self.run_bytes
+        self.as_slice().iter().map(|word| word.len()).sum()
     }
 
     // The bytes of word k, none where there is no such word.
     pub fn word(&self, k: usize) -> &'a [u8]
         ensures { result.now ≡ slice_index_or (indexed self.now) k [] }
     {
-        if k >= self.count {
-            return &[];
-        }
-        let place = self.places[k];
-        &self.list[place..place + self.lengths[k] as usize]
+        self.as_slice().get(k).copied().unwrap_or(&[])
     }
 
     // How many bytes word k has, 0 where there is no such word.
@@ -42,7 +45,6 @@ impl<'a> Words<'a> {
     pub fn byte_of(&self, k: usize, i: usize) -> u8
         ensures { result ≡ slice_index (slice_index_or (indexed self.now) k []) i }
     {
-        let word = self.word(k);
-        if i < word.len() { word[i] } else { 0 }
+        self.word(k).get(i).copied().unwrap_or(0)
     }
 }

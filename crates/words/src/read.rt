@@ -1,67 +1,48 @@
 // Reading the words of a list.
-ghost use Rattle.std.specs.Prelude.{◌≡◌, ◌+◌, ◌<◌, ◌≤◌, [], ◌∷◌, ◌++◌, length};
+ghost use Rattle.std.specs.Prelude.{◌≡◌, ◌<◌, [], ◌∷◌, ◌++◌, length};
 ghost use Rattle.landmark.specs.Lists.{most_words};
-ghost use Rattle.landmark.specs.Records.{longest_run};
-ghost use Rattle.words.specs.Index.{Indexes, indexed};
-ghost use Rattle.words.specs.Places.{part_at};
+ghost use Rattle.words.specs.RunSized.{RunSized};
+ghost use Rattle.words.specs.Index.{Indexes, indexed, slices};
 
-use crate::words::{MOST_WORDS, Words};
-use landmark::{Element, read_element};
-
-// The bytes of a record in front of its body: its length and its kind.
-const HEAD: usize = 4;
+use crate::words::Words;
+use arrayvec::ArrayVec;
+use landmark::{Element, Records};
 
 impl<'a> Words<'a> {
-    // No words, of a list.
-    fn over(list: &'a [u8]) -> Words<'a>
-        ensures empty { indexed result ≡ [] }
-        ensures same_list { result.list ≡ list.entry }
-    {
-        Words {
-            list,
-            count: 0,
-            places: [0; MOST_WORDS],
-            lengths: [0; MOST_WORDS],
-            run_bytes: 0,
-        }
-    }
-
     // No words.
     pub fn none() -> Words<'a>
         ensures { indexed result ≡ [] }
     {
-        Words::over(&[])
+        Words {
+            words: ArrayVec::new(),
+        }
     }
 
-    // One more word: so many bytes of the list from a place on.
-    fn push(&mut self, place: usize, size: usize)
-        requires room { self.old.count < most_words }
-        requires within { place + size ≤ length self.old.list.now }
-        requires some { 0 < size }
-        requires small { size ≤ longest_run }
-        ensures more { indexed self.new ≡ indexed self.old ++ (part_at self.old.list.now place size ∷ []) }
-        ensures same_list { self.new.list ≡ self.old.list }
+    // One more word.
+    fn push(&mut self, word: &'a [u8])
+        requires room { length (slices self.old) < most_words }
+        requires sized { RunSized word.now }
+        ensures { indexed self.new ≡ indexed self.old ++ (word.now ∷ []) }
     {
-        self.places[self.count] = place;
-        self.lengths[self.count] = size as u8;
-        self.run_bytes += size;
-        self.count += 1;
+        self.words.push(word);
     }
 
     // The words of a list, as many as an index holds.
     pub fn of(list: &'a [u8]) -> Words<'a>
         ensures { Indexes list.now result }
     {
-        let mut words = Words::over(list);
-        let mut at = 0;
-        while let Ok(read) = read_element(list, at) {
+        let mut words = Words::none();
+        for read in Records::of(list) {
+            let read = match read {
+                Ok(read) => read,
+                Err(_) => return words,
+            };
             if let Element::Run(bytes) = read.element {
-                if words.count >= MOST_WORDS {
+                if words.words.is_full() {
                     return words;
                 }
-                words.push(at + HEAD, bytes.len());
+                words.push(bytes);
             }
-            at = read.next;
         }
         words
     }

@@ -1,23 +1,15 @@
-// Where the words of a list lie.
-ghost use Rattle.std.specs.Prelude.{◌≡◌, ℕ, ◌<◌, ◌≤◌, length};
-ghost use Rattle.landmark.specs.Grammar.{sizes};
+// The words of a list, each as the bytes of the list that make it up.
+ghost use Rattle.std.specs.Prelude.{ℕ, ◌<◌, ◌≤◌, [], length, map, slice_index_or};
 ghost use Rattle.landmark.specs.Lists.{most_words};
-ghost use Rattle.words.specs.Places.{LiesInside, placed};
+ghost use Rattle.words.specs.RunSized.{RunSized};
 
-// The most words of a list.
-pub(crate) const MOST_WORDS: usize = 64;
+use arrayvec::ArrayVec;
+use landmark::MOST_WORDS;
 
-// The words of a list, each by its place in the list and its length.
+// The words of a list, each a part of it.
 #[derive(Drop)]
 pub struct Words<'a> {
-    pub(crate) list: &'a [u8],
-    pub(crate) count: usize,
-    pub(crate) places: [usize; MOST_WORDS],
-    pub(crate) lengths: [u8; MOST_WORDS],
-    pub(crate) run_bytes: usize,
-    ghost few: { count ≤ most_words },
-    ghost all_places: { length places ≡ most_words },
-    ghost all_lengths: { length lengths ≡ most_words },
-    ghost inside: { (k : ℕ) → k < count → LiesInside list.now places lengths k },
-    ghost total: { run_bytes ≡ sizes (placed list.now places lengths count) },
+    pub(crate) words: ArrayVec<&'a [u8], MOST_WORDS>,
+    ghost few: { length words.items ≤ most_words },
+    ghost sized: { (k : ℕ) → k < length words.items → RunSized (slice_index_or (map (λ s. s.now) words.items) k []) },
 }

@@ -1,5 +1,5 @@
 // How an image is cut into blocks, as a radio link would.
-use anyhow::anyhow;
+use anyhow::{anyhow, bail, ensure};
 
 // The size of a block where no sizes are asked for.
 const USUAL_SIZE: usize = 64;
@@ -15,24 +15,18 @@ const MOST_BLOCKS: usize = 1 << 22;
 
 // The sizes of a text such as 64,7,128.
 fn read_row(rt: &HostRuntime, text: &str) -> anyhow::Result<Vec<usize>> {
-    if text.is_empty() {
-        return Err(anyhow!("--blocks: the row of sizes is empty"));
-    }
+    ensure!(!text.is_empty(), "--blocks: the row of sizes is empty");
     let mut row = Vec::new(rt.alloc());
-    let mut greatest = 0;
-    for (before, part) in text.split(',').enumerate() {
+    for (number, part) in (1u64..).zip(text.split(',')) {
         let Ok(size) = part.parse::<usize>() else {
-            let number = before.saturating_add(1);
-            return Err(anyhow!(format!(in rt.alloc();
-                "--blocks: size {number} of the row is no number, or too great: '{part}'"
-            )?));
+            bail!("--blocks: size {number} of the row is no number, or too great: '{part}'");
         };
         row.push(size)?;
-        greatest = size.max(greatest);
     }
-    if greatest == 0 {
-        return Err(anyhow!("--blocks: the row has zeros alone, so that no block has a byte"));
-    }
+    ensure!(
+        row.iter().any(|size| *size > 0),
+        "--blocks: the row has zeros alone, so that no block has a byte"
+    );
     Ok(row)
 }
 
@@ -56,13 +50,9 @@ fn random_row(rt: &HostRuntime, seed: u64) -> anyhow::Result<Vec<usize>> {
 }
 
 // The number that an option is given.
-pub fn read_number(rt: &HostRuntime, option: &str, text: &str) -> anyhow::Result<usize> {
-    match text.parse::<usize>() {
-        Ok(number) => Ok(number),
-        Err(_) => Err(anyhow!(format!(in rt.alloc();
-            "{option}: no number, or too great: '{text}'"
-        )?)),
-    }
+pub fn read_number(option: &str, text: &str) -> anyhow::Result<usize> {
+    text.parse::<usize>()
+        .map_err(|_| anyhow!("{option}: no number, or too great: '{text}'"))
 }
 
 // The row of sizes by the texts of `--blocks` and `--seed`.
@@ -72,11 +62,11 @@ pub fn row(
     seed: Option<&str>,
 ) -> anyhow::Result<Vec<usize>> {
     match (blocks, seed) {
-        (Some(_), Some(_)) => Err(anyhow!(
+        (Some(_), Some(_)) => bail!(
             "--blocks and --seed both say how the image is cut: give one of them"
-        )),
+        ),
         (Some(text), None) => read_row(rt, text),
-        (None, Some(text)) => random_row(rt, read_number(rt, "--seed", text)? as u64),
+        (None, Some(text)) => random_row(rt, read_number("--seed", text)? as u64),
         (None, None) => Ok(vec![in rt.alloc(); USUAL_SIZE]?),
     }
 }
@@ -92,10 +82,9 @@ pub fn cuts(rt: &HostRuntime, row: &[usize], length: usize) -> anyhow::Result<Ve
         end = end.saturating_add(*size).min(length);
         cuts.push(end)?;
     }
-    if end < length {
-        return Err(anyhow!(format!(in rt.alloc();
-            "--blocks: the sizes cut the image into more than {MOST_BLOCKS} blocks"
-        )?));
-    }
+    ensure!(
+        end >= length,
+        "--blocks: the sizes cut the image into more than {MOST_BLOCKS} blocks"
+    );
     Ok(cuts)
 }

@@ -1,9 +1,11 @@
 // Where the words of a list end in an image.
+use bits::SetBits;
 use finder::Finder;
 use landmark::Fault;
 use link::{LinkFinder, Node};
 use shift::ShiftFinder;
 use std::fmt;
+use std::str::FromStr;
 
 // The finders that an image can be searched with.
 #[derive(Clone, Copy)]
@@ -13,13 +15,20 @@ pub enum Method {
     Both,
 }
 
-// The method of this name.
-pub fn method_named(name: &str) -> Option<Method> {
-    match name {
-        "link" => Some(Method::Link),
-        "shift" => Some(Method::Shift),
-        "both" => Some(Method::Both),
-        _ => None,
+// A name that no method has.
+#[derive(Clone, Copy, Debug)]
+pub struct NoMethod;
+
+impl FromStr for Method {
+    type Err = NoMethod;
+
+    fn from_str(name: &str) -> Result<Method, NoMethod> {
+        match name {
+            "link" => Ok(Method::Link),
+            "shift" => Ok(Method::Shift),
+            "both" => Ok(Method::Both),
+            _ => Err(NoMethod),
+        }
     }
 }
 
@@ -34,10 +43,8 @@ impl fmt::Display for Ending {
     fn fmt<W: fmt::Write>(&self, f: &mut fmt::Formatter<W>) -> fmt::Result {
         let end = self.end;
         write!(f, "end {end}: words")?;
-        for word in 0..64u32 {
-            if (self.words >> word) & 1 == 1 {
-                write!(f, " {word}")?;
-            }
+        for word in SetBits(self.words) {
+            write!(f, " {word}")?;
         }
         Ok(())
     }
@@ -46,13 +53,10 @@ impl fmt::Display for Ending {
 // One line for each byte of the image at which words end.
 fn print_endings<F: Finder>(rt: &HostRuntime, finder: &mut F, image: &[u8]) -> anyhow::Result<()> {
     finder.rest();
-    for (before, byte) in image.iter().enumerate() {
+    for (end, byte) in (1usize..).zip(image) {
         let words = finder.take(*byte);
         if words != 0 {
-            let ending = Ending {
-                end: before.saturating_add(1),
-                words,
-            };
+            let ending = Ending { end, words };
             println!(rt; "{ending}")?;
         }
     }
@@ -68,9 +72,8 @@ fn print_in_step<F: Finder, G: Finder>(
 ) -> anyhow::Result<()> {
     link.rest();
     shift.rest();
-    for (before, byte) in image.iter().enumerate() {
+    for (end, byte) in (1usize..).zip(image) {
         let words = link.take(*byte);
-        let end = before.saturating_add(1);
         if words != shift.take(*byte) {
             println!(rt; "the finders differ at {end}")?;
             return Ok(());
@@ -84,52 +87,32 @@ fn print_in_step<F: Finder, G: Finder>(
     Ok(())
 }
 
+// A link finder of the list, whose table is built in these nodes.
+fn link_finder<'a>(list: &'a [u8], nodes: &'a mut [Node]) -> Result<LinkFinder<'a>, Fault> {
+    link::build(list, nodes)?;
+    LinkFinder::mounted(list, nodes)
+}
+
+// A shift finder of the list, whose table is built in these numbers.
+pub fn shift_finder<'a>(list: &'a [u8], numbers: &'a mut [u64]) -> Result<ShiftFinder<'a>, Fault> {
+    shift::build(list, numbers)?;
+    ShiftFinder::mounted(list, numbers)
+}
+
 // A refusal is an answer.
 fn print_refusal(rt: &HostRuntime, fault: Fault) -> anyhow::Result<()> {
     println!(rt; "refused {fault}")?;
     Ok(())
 }
 
-fn find_by_link<'a>(
+// What the finder finds in the image.
+fn print_found<F: Finder + Drop>(
     rt: &HostRuntime,
-    list: &'a [u8],
-    nodes: &'a [Node],
+    finder: Result<F, Fault>,
     image: &[u8],
 ) -> anyhow::Result<()> {
-    let mut finder = LinkFinder::new();
-    match finder.mount(list, nodes) {
-        Ok(()) => print_endings(rt, &mut finder, image),
-        Err(fault) => print_refusal(rt, fault),
-    }
-}
-
-fn find_by_shift<'a>(
-    rt: &HostRuntime,
-    list: &'a [u8],
-    numbers: &'a [u64],
-    image: &[u8],
-) -> anyhow::Result<()> {
-    let mut finder = ShiftFinder::new();
-    match finder.mount(list, numbers) {
-        Ok(()) => print_endings(rt, &mut finder, image),
-        Err(fault) => print_refusal(rt, fault),
-    }
-}
-
-fn find_by_both<'a>(
-    rt: &HostRuntime,
-    list: &'a [u8],
-    nodes: &'a [Node],
-    numbers: &'a [u64],
-    image: &[u8],
-) -> anyhow::Result<()> {
-    let mut link = LinkFinder::new();
-    if let Err(fault) = link.mount(list, nodes) {
-        return print_refusal(rt, fault);
-    }
-    let mut shift = ShiftFinder::new();
-    match shift.mount(list, numbers) {
-        Ok(()) => print_in_step(rt, &mut link, &mut shift, image),
+    match finder {
+        Ok(mut finder) => print_endings(rt, &mut finder, image),
         Err(fault) => print_refusal(rt, fault),
     }
 }
@@ -138,19 +121,16 @@ fn find_by_both<'a>(
 pub fn find(rt: &HostRuntime, method: Method, list: &[u8], image: &[u8]) -> anyhow::Result<()> {
     let mut numbers = [0u64; 256];
     let mut nodes = crate::table::room(rt, list)?;
-    let built = match method {
-        Method::Link => link::build(list, nodes.as_mut_slice()),
-        Method::Shift | Method::Both => shift::build(list, &mut numbers),
-    };
-    if let Err(fault) = built {
-        return print_refusal(rt, fault);
-    }
     match method {
-        Method::Link => find_by_link(rt, list, nodes.as_slice(), image),
-        Method::Shift => find_by_shift(rt, list, &numbers, image),
-        Method::Both => match link::build(list, nodes.as_mut_slice()) {
-            Ok(_) => find_by_both(rt, list, nodes.as_slice(), &numbers, image),
-            Err(fault) => print_refusal(rt, fault),
-        },
+        Method::Link => print_found(rt, link_finder(list, nodes.as_mut_slice()), image),
+        Method::Shift => print_found(rt, shift_finder(list, &mut numbers), image),
+        Method::Both => {
+            let shift = shift_finder(list, &mut numbers);
+            let link = link_finder(list, nodes.as_mut_slice());
+            match (shift, link) {
+                (Ok(mut shift), Ok(mut link)) => print_in_step(rt, &mut link, &mut shift, image),
+                (Err(fault), _) | (_, Err(fault)) => print_refusal(rt, fault),
+            }
+        }
     }
 }

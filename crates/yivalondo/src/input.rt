@@ -12,8 +12,5 @@ pub fn read_input(rt: &HostRuntime) -> anyhow::Result<Vec<u8>> {
 
 // The bytes of a file.
 pub fn read_file(rt: &HostRuntime, path: &str) -> anyhow::Result<Vec<u8>> {
-    match fs::read(rt, path) {
-        Ok(bytes) => Ok(bytes),
-        Err(why) => Err(anyhow!(format!(in rt.alloc(); "cannot read {path}: {why}")?)),
-    }
+    fs::read(rt, path).map_err(|why| anyhow!("cannot read {path}: {why}"))
 }

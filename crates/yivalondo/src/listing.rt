@@ -1,8 +1,5 @@
 // What a meter reads in a list, one line an element.
-ghost use Rattle.std.specs.Prelude.{◌-◌};
-ghost use Rattle.std.specs.Iterator.{at_most};
-
-use landmark::{Counts, Element, Fault, Role, read_element};
+use landmark::{Counts, Element, Fault, Records, Role, read_list};
 use std::fmt;
 
 // What reading the whole list answered.
@@ -62,56 +59,27 @@ impl fmt::Display for Line<'_> {
     }
 }
 
-// The elements of a list up to its first fault.
-#[derive(Drop)]
-pub struct Listing<'a> {
-    list: &'a [u8],
-    place: usize,
-    stop: usize,
-    starts: usize,
-    runs: usize,
-}
-
-impl<'a> Listing<'a> {
-    pub fn new(list: &'a [u8], verdict: &Result<Counts, Fault>) -> Listing<'a> {
-        let stop = match verdict {
-            Ok(_) => list.len(),
-            Err(fault) => fault.detail,
-        };
-        Listing {
-            list,
-            place: 0,
-            stop,
-            starts: 0,
-            runs: 0,
-        }
-    }
-}
-
-impl<'a> Iterator for Listing<'a> {
-    type Item = Line<'a>;
-
-    ghost remaining = { λ s. at_most (s.stop - s.place) };
-
-    fn next(&mut self) -> Option<Line<'a>> {
-        if self.place >= self.stop {
-            return None;
-        }
-        let Ok(read) = read_element(self.list, self.place) else {
-            return None;
-        };
-        let place = self.place;
-        self.place = read.next;
+// One line an element, up to the first one that is refused.
+pub fn print_lines(rt: &HostRuntime, list: &[u8]) -> anyhow::Result<()> {
+    let stop = read_list(list).map_or_else(|fault| fault.detail, |_| list.len());
+    let mut starts = 0usize;
+    let mut runs = 0usize;
+    for read in Records::of(list)
+        .map_while(|read| read.ok())
+        .take_while(|read| read.place < stop)
+    {
         match read.element {
-            Element::Start(_) => self.starts = self.starts.saturating_add(1),
-            Element::Run(_) => self.runs = self.runs.saturating_add(1),
+            Element::Start(_) => starts = starts.saturating_add(1),
+            Element::Run(_) => runs = runs.saturating_add(1),
             _ => {}
         }
-        Some(Line {
-            place,
-            landmark: self.starts.saturating_sub(1),
-            word: self.runs.saturating_sub(1),
+        let line = Line {
+            place: read.place,
+            landmark: starts.saturating_sub(1),
+            word: runs.saturating_sub(1),
             element: read.element,
-        })
+        };
+        println!(rt; "{line}")?;
     }
+    Ok(())
 }

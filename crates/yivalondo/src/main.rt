@@ -9,8 +9,9 @@ mod options;
 mod scanning;
 mod table;
 
-use anyhow::anyhow;
-use listing::{Listing, Verdict};
+use anyhow::bail;
+use find::Method;
+use listing::{Verdict, print_lines};
 use std::env;
 use std::process::ExitCode;
 
@@ -19,11 +20,6 @@ const SCAN: &str = "yivalondo scan [--blocks N,N,..|--seed N] [--entry K] LIST I
 const FIND: &str = "yivalondo find [--finder link|shift|both] LIST IMAGE";
 
 const LISTS: &str = "yivalondo check|show|table|dot [LIST]";
-
-// The words that a command takes, for one that was given others.
-fn usage(rt: &HostRuntime, command: &str) -> anyhow::Result<()> {
-    Err(anyhow!(format!(in rt.alloc(); "usage: {command}")?))
-}
 
 // One line a command.
 fn help(rt: &HostRuntime) -> anyhow::Result<()> {
@@ -42,19 +38,16 @@ fn check(rt: &HostRuntime, list: &[u8]) -> anyhow::Result<()> {
 
 // One line an element up to the first fault, and then what `check` prints.
 fn show(rt: &HostRuntime, list: &[u8]) -> anyhow::Result<()> {
-    let verdict = landmark::read_list(list);
-    for line in Listing::new(list, &verdict) {
-        println!(rt; "{line}")?;
-    }
+    print_lines(rt, list)?;
     check(rt, list)
 }
 
 // Scans the image in blocks, and says where it is entered.
 fn scan_files(rt: &HostRuntime, words: &[String]) -> anyhow::Result<()> {
     let [options @ .., list, image] = words else {
-        return usage(rt, SCAN);
+        bail!("usage: {SCAN}");
     };
-    let options = options::read_options(rt, options)?;
+    let options = options::read_options(options)?;
     let row = cuts::row(rt, options.blocks, options.seed)?;
     let list = input::read_file(rt, list.as_str())?;
     let image = input::read_file(rt, image.as_str())?;
@@ -70,52 +63,47 @@ fn scan_files(rt: &HostRuntime, words: &[String]) -> anyhow::Result<()> {
 // The places of the image at which words of the list end, by the finder that is asked for.
 fn find_words(rt: &HostRuntime, words: &[String]) -> anyhow::Result<()> {
     let (method, files) = match words {
-        [option, name, files @ ..] if option.as_str() == "--finder" => (
-            find::method_named(name.as_str()),
-            files,
-        ),
-        _ => (Some(find::Method::Link), words),
+        [option, name, files @ ..] if option.as_str() == "--finder" => (name.parse(), files),
+        _ => (Ok(Method::Link), words),
     };
-    let (Some(method), [list, image]) = (method, files) else {
-        return usage(rt, FIND);
+    let (Ok(method), [list, image]) = (method, files) else {
+        bail!("usage: {FIND}");
     };
     let list = input::read_file(rt, list.as_str())?;
     let image = input::read_file(rt, image.as_str())?;
     find::find(rt, method, list.as_slice(), image.as_slice())
 }
 
-// What a command does with one list.
-fn with_list(rt: &HostRuntime, command: &str, list: &[u8]) -> anyhow::Result<()> {
-    match command {
-        "check" => check(rt, list),
-        "show" => show(rt, list),
-        "table" => table::print_table(rt, list),
-        _ => table::print_drawing(rt, list),
-    }
-}
-
-// The commands on one list, which is a file or standard input.
-fn read_lists(rt: &HostRuntime, command: &str, words: &[String]) -> anyhow::Result<()> {
-    match words {
-        [] => with_list(rt, command, input::read_input(rt)?.as_slice()),
-        [list] => with_list(rt, command, input::read_file(rt, list.as_str())?.as_slice()),
-        _ => usage(rt, LISTS),
-    }
+// What a command does with one list, which is a file or standard input.
+fn with_list<F: FnOnce(&HostRuntime, &[u8]) -> anyhow::Result<()>>(
+    rt: &HostRuntime,
+    words: &[String],
+    command: F,
+) -> anyhow::Result<()>
+    requires { F.IsAlwaysCallable command }
+{
+    let list = match words {
+        [] => input::read_input(rt)?,
+        [list] => input::read_file(rt, list.as_str())?,
+        _ => bail!("usage: {LISTS}"),
+    };
+    command(rt, list.as_slice())
 }
 
 fn run(rt: &HostRuntime) -> anyhow::Result<()> {
     let words: Vec<String> = env::args(rt)?.skip(1).collect(rt.alloc())?;
     let [command, rest @ ..] = words.as_slice() else {
-        return Err(anyhow!("no command: `yivalondo help` lists them"));
+        bail!("no command: `yivalondo help` lists them");
     };
     match command.as_str() {
         "scan" => scan_files(rt, rest),
         "find" => find_words(rt, rest),
-        "check" | "show" | "table" | "dot" => read_lists(rt, command.as_str(), rest),
+        "check" => with_list(rt, rest, check),
+        "show" => with_list(rt, rest, show),
+        "table" => with_list(rt, rest, table::print_table),
+        "dot" => with_list(rt, rest, table::print_drawing),
         "help" => help(rt),
-        name => Err(anyhow!(format!(in rt.alloc();
-            "no command '{name}': `yivalondo help` lists them"
-        )?)),
+        name => bail!("no command '{name}': `yivalondo help` lists them"),
     }
 }
 

@@ -1,9 +1,11 @@
 // An image scanned in blocks, and where it is entered.
+use crate::find::shift_finder;
 use crate::{cuts, table};
 use entry::{block_to, find_entry};
 use finder::Finder;
 use landmark::{Fault, Role};
 use link::{LinkFinder, Node};
+use order_client::enter;
 use plan::Plan;
 use scan::{Scan, agree};
 use shift::ShiftFinder;
@@ -36,10 +38,7 @@ pub struct Sighting {
 impl fmt::Display for Sighting {
     fn fmt<W: fmt::Write>(&self, f: &mut fmt::Formatter<W>) -> fmt::Result {
         let landmark = self.landmark;
-        let role = match self.role {
-            Role::Entry => "entry",
-            Role::Bar => "bar",
-        };
+        let role = self.role;
         match self.end {
             Some(end) => write!(f, "landmark {landmark} {role}: end {end}"),
             None => write!(f, "landmark {landmark} {role}: no end"),
@@ -144,15 +143,6 @@ fn offer_blocks<F: Finder, G: Finder>(
     print_missing_ends(rt, job.plan, known.as_slice())
 }
 
-// Enters by an order that the scan issues, and that is then carried out.
-fn enter<F: Finder>(scan: &mut Scan<F>, landmark: usize) -> Result<usize, Fault> {
-    let order = scan.issue(landmark)?;
-    match scan.carry_out(order) {
-        Ok(entry) => Ok(entry),
-        Err(_) => unreachable(),
-    }
-}
-
 // Scans an image in step with two finders, the second one where its words are the list's, and holds the order of the
 // first scan to the answer.
 fn scan_in_step<F: Finder + Drop, G: Finder + Drop>(
@@ -189,66 +179,47 @@ fn print_answer(rt: &HostRuntime, answer: Result<usize, Fault>) -> anyhow::Resul
     Ok(())
 }
 
-// Scans with the finders of these tables. The answer is that of `find_entry`.
-fn scan_with_tables<'a>(
-    rt: &HostRuntime,
-    job: Job<'a>,
-    nodes: &'a [Node],
-    numbers: &'a [u64],
-) -> anyhow::Result<()> {
-    let mut link = LinkFinder::new();
-    let mut again = LinkFinder::new();
-    if let Err(fault) = link.mount(job.list, nodes) {
-        return print_refusal(rt, fault);
-    }
-    if let Err(fault) = again.mount(job.list, nodes) {
-        return print_refusal(rt, fault);
-    }
-    let mut shift = ShiftFinder::new();
-    let _ = shift.mount(job.list, numbers);
-    let answer = find_entry(again, job.list, job.image, job.cuts, job.landmark);
-    scan_in_step(rt, link, shift, job, answer)?;
-    print_answer(rt, answer)
+// Two link finders of the list, whose table is built in these nodes.
+fn two_links<'a>(
+    list: &'a [u8],
+    nodes: &'a mut [Node],
+) -> Result<(LinkFinder<'a>, LinkFinder<'a>), Fault> {
+    link::build(list, nodes)?;
+    Ok((
+        LinkFinder::mounted(list, nodes)?,
+        LinkFinder::mounted(list, nodes)?,
+    ))
 }
 
 // The first entry landmark, and 0 where there is none.
 fn first_entry(plan: &Plan) -> usize {
-    for landmark in 0..plan.landmarks() {
-        if let Some(Role::Entry) = plan.role(landmark) {
-            return landmark;
-        }
-    }
-    0
+    (0..plan.landmarks())
+        .find(|landmark| plan.role(*landmark) == Some(Role::Entry))
+        .unwrap_or(0)
 }
 
 // The landmark that is entered by: the one asked for, or the list's first entry landmark.
-fn entry_landmark(rt: &HostRuntime, plan: &Plan, asked: Option<&str>) -> anyhow::Result<usize> {
+fn entry_landmark(plan: &Plan, asked: Option<&str>) -> anyhow::Result<usize> {
     match asked {
-        Some(text) => cuts::read_number(rt, "--entry", text),
+        Some(text) => cuts::read_number("--entry", text),
         None => Ok(first_entry(plan)),
     }
 }
 
-// Scans an image in blocks of these sizes.
-pub fn scan_image<'a>(
+// Scans an image in blocks of these sizes. The answer is that of `find_entry`.
+pub fn scan_image(
     rt: &HostRuntime,
     row: &[usize],
     asked: Option<&str>,
-    list: &'a [u8],
-    image: &'a [u8],
+    list: &[u8],
+    image: &[u8],
 ) -> anyhow::Result<()> {
     let plan = match Plan::read(list) {
         Ok(plan) => plan,
         Err(fault) => return print_refusal(rt, fault),
     };
-    let landmark = entry_landmark(rt, &plan, asked)?;
+    let landmark = entry_landmark(&plan, asked)?;
     let cuts = cuts::cuts(rt, row, image.len().min(scan::MOST_ANNOUNCED))?;
-    let mut nodes = table::room(rt, list)?;
-    if let Err(fault) = link::build(list, nodes.as_mut_slice()) {
-        return print_refusal(rt, fault);
-    }
-    let mut numbers = [0u64; 256];
-    let _ = shift::build(list, &mut numbers);
     let job = Job {
         list,
         plan: &plan,
@@ -256,5 +227,14 @@ pub fn scan_image<'a>(
         cuts: cuts.as_slice(),
         landmark,
     };
-    scan_with_tables(rt, job, nodes.as_slice(), &numbers)
+    let mut nodes = table::room(rt, list)?;
+    let (link, again) = match two_links(list, nodes.as_mut_slice()) {
+        Ok(links) => links,
+        Err(fault) => return print_refusal(rt, fault),
+    };
+    let mut numbers = [0u64; 256];
+    let shift = shift_finder(list, &mut numbers).unwrap_or(ShiftFinder::new());
+    let answer = find_entry(again, list, image, job.cuts, landmark);
+    scan_in_step(rt, link, shift, job, answer)?;
+    print_answer(rt, answer)
 }

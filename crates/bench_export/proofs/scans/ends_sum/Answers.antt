@@ -1,6 +1,11 @@
-use Rattle.bench_export.proofs.Asked.{asked_more}
+use Rattle.std.proofs.Common.{ℕ, ◌+◌, rules, refl}
+use Rattle.std.proofs.lemmas.Iterator.{YieldsList-from_range}
+use Rattle.std.proofs.lemmas.Iterator.Consumers.{fold_from_yields_List}
+use Rattle.scan.specs.Calls.{own_facts}
+use Rattle.scan.specs.Rules.{end_at}
+use Rattle.bench_export.specs.Scans.{with_end}
 use Rattle.bench_export.proofs.scans.ends_sum.Goals as goal
 
-pub loop-landmark-preserved : goal.loop-landmark-preserved
-loop-landmark-preserved g c =
-    asked_more g.F.Finder.words g.F.Finder.halves c.args.scan.now c.loop-landmark.landmark c.ask.result c.unwrap_or-end.result c.loop-landmark.sum c.with_end-sum.result c.ask.ensures c.loop-landmark.invariant c.unwrap_or-end.ensures c.with_end-sum.ensures
+pub returns : goal.returns
+returns g c =
+    fold_from_yields_List _ (λ (sum k : ℕ). with_end sum (k + 1) (end_at (own_facts c.args.scan.now) k)) 0 c.fold.result c.fold.ensures.ran (YieldsList-from_range 0 32 32 refl refl) (λ a k b q is. search rules)

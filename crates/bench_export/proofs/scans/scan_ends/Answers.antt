@@ -1,24 +1,36 @@
-use Rattle.std.proofs.Common.{sym, ◌∙◌, subst, arith}
-use Rattle.entry.proofs.Finding.{Scanning, not_refused, ok_same, scanning_more, scanning_none}
-use Rattle.bench_export.proofs.Scanned.{scans_all, scans_none}
+use Rattle.std.proofs.Common.{length, sym, ap, ◌∙◌, arith, rules}
+use Rattle.std.proofs.lemmas.List.{length-drop}
+use Rattle.entry.proofs.Finding.{scanning_none}
+use Rattle.bench_export.proofs.Scanned.{accepted, scans_all, scans_more, scans_none}
 use Rattle.bench_export.proofs.scans.scan_ends.Goals as goal
 
-pub returns-in_default : goal.returns-in_default
-returns-in_default g c = scans_none g.F.Finder.words g.F.Finder.halves c.args.list.now c.args.image.now c.args.finder c.new-scan.result c.open.new.self c.open.result c.in_default.field-0 c.new-scan.ensures c.open.ensures c.in_default.is
+pub returns-then-is_err : goal.returns-then-is_err
+returns-then-is_err g c = scans_none g.F.Finder c.args.list.now c.args.image.now c.args.finder c.new-scan.result c.open.new.self c.open.result (sym c.is_err.ensures.value ∙ c.if-is_err.true) c.new-scan.ensures c.open.ensures
 
-pub loop-taken-init : goal.loop-taken-init
-loop-taken-init g c = scanning_none g.F.Finder.words g.F.Finder.halves c.args.list.now c.args.image.now c.args.finder c.new-scan.result c.open.new.self c.open.result c.new-scan.ensures c.open.ensures c.in-Ok.is
+pub loop-chunk-init : goal.loop-chunk-init
+loop-chunk-init g c = (
+  search rules,
+  tt,
+  scanning_none g.F.Finder c.args.list.now c.args.image.now c.args.finder c.new-scan.result c.open.new.self c.open.result c.new-scan.ensures c.open.ensures (accepted c.open.result (sym c.is_err.ensures.value ∙ c.if-is_err.false)),
+  search rules,
+)
 
-pub unreachable-requires : goal.unreachable-requires
-unreachable-requires g c =
-    let more = scanning_more g.F.Finder.words g.F.Finder.halves c.args.list.now c.args.image.now c.loop-taken.taken c.saturating_add-cut.result c.block_to.result.now c.loop-taken.scan c.offer.new.self c.offer.result c.loop-taken.invariant c.block_to.ensures c.offer.ensures in
-    not_refused more.1 c.in-Err.is
+pub unwrap-taken-requires : goal.unwrap-taken-requires
+unwrap-taken-requires g c =
+    let inv = c.loop-chunk.invariant in
+    let left = inv.3 ∙ c.in-Some.ensures.steps.1.0 in
+    (scans_more g.F.Finder c.args.list.now c.args.image.now c.loop-chunk.taken _ _ c.loop-chunk.scan c.offer.new.self c.offer.result inv.2 left c.offer.ensures).0
 
-pub loop-taken-preserved : goal.loop-taken-preserved
-loop-taken-preserved g c =
-    let more = scanning_more g.F.Finder.words g.F.Finder.halves c.args.list.now c.args.image.now c.loop-taken.taken c.saturating_add-cut.result c.block_to.result.now c.loop-taken.scan c.offer.new.self c.offer.result c.loop-taken.invariant c.block_to.ensures c.offer.ensures in
-    subst (λ n. Scanning g.F.Finder.words g.F.Finder.halves c.args.list.now c.args.image.now n c.offer.new.self) (ok_same (sym more.1 ∙ c.in-Ok-offer.is)) more.3
+pub loop-chunk-preserved : goal.loop-chunk-preserved
+loop-chunk-preserved g c =
+    let inv = c.loop-chunk.invariant in
+    let left = inv.3 ∙ c.in-Some.ensures.steps.1.0 in
+    let more = (scans_more g.F.Finder c.args.list.now c.args.image.now c.loop-chunk.taken _ _ c.loop-chunk.scan c.offer.new.self c.offer.result inv.2 left c.offer.ensures).1 _ c.unwrap-taken.ensures in
+    (search rules, tt, more.0, more.1)
 
 pub returns : goal.returns
 returns g c =
-    scans_all g.F.Finder.words g.F.Finder.halves c.args.list.now c.args.image.now c.args.finder c.new-scan.result c.open.new.self c.loop-taken.scan c.open.result c.loop-taken.taken c.ends_sum.result c.new-scan.ensures c.open.ensures c.in-Ok.is c.loop-taken.invariant (omega (arith, c.loop-taken-test.false)) c.ends_sum.ensures
+    let inv = c.loop-chunk.invariant in
+    let none = c.in-None.ensures.steps.1.0 in
+    let left = sym (length-drop c.loop-chunk.taken c.args.image.now) ∙ ap length inv.3 ∙ none in
+    scans_all g.F.Finder c.args.list.now c.args.image.now c.args.finder c.new-scan.result c.open.new.self c.loop-chunk.scan c.open.result c.loop-chunk.taken c.ends_sum.result c.new-scan.ensures c.open.ensures (accepted c.open.result (sym c.is_err.ensures.value ∙ c.if-is_err.false)) inv.2 (omega (arith, left)) c.ends_sum.ensures

@@ -1,10 +1,12 @@
-use Rattle.std.proofs.Common.{◌-◌, length}
+use Rattle.std.proofs.Common.{◌≡◌, drop}
+use Rattle.std.specs.Slice.Iter.{chunks_rest}
 use Rattle.entry.proofs.Finding.{Scanning}
 use Rattle.bench_export.proofs.scans.scan_ends.Given as goal
 
--- so many bytes of the image are taken
-abbrev pub invariant-loop-taken : goal.invariant-loop-taken
-invariant-loop-taken g l = Scanning g.F.Finder.words g.F.Finder.halves l.list l.image l.taken l.scan
-
-abbrev pub decreases-loop-taken : goal.decreases-loop-taken
-decreases-loop-taken g l = length l.image - l.taken
+-- so many bytes of the image are taken, and the chunks to come are the rest
+abbrev pub invariant-loop-chunk : goal.invariant-loop-chunk
+invariant-loop-chunk g l =
+    (goal.iterator-loop-chunk g).can_next l.chunk-iterator
+    × (goal.iterator-loop-chunk g).is_finite l.chunk-iterator
+    × Scanning g.F.Finder l.list l.image l.taken l.scan
+    × (drop l.taken l.image ≡ chunks_rest l.chunk-iterator)

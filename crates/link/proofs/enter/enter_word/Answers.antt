@@ -5,11 +5,8 @@ use Rattle.link.specs.Entering.{Holds, Reaches}
 use Rattle.link.specs.declared.node.Node.{Node}
 use Rattle.link.proofs.Growing.{few_strings, few_symbols}
 use Rattle.link.proofs.Marking.{holds-word}
-use Rattle.link.proofs.Reaching.{reaches_fits, reaches_more, reaches_own, reaches_root}
+use Rattle.link.proofs.Reaching.{reaches_fits, reaches_more, reaches_own}
 use Rattle.link.proofs.enter.enter_word.Goals as goal
-
-pub loop-i-init : goal.loop-i-init
-loop-i-init g c = (omega arith, λ before holds. reaches_root (take c.args.k (g.S.Source.entered c.args.source.now)) c.args.count before c.args.table.now holds)
 
 pub enter_symbol-reached-requires : goal.enter_symbol-reached-requires
 enter_symbol-reached-requires g c =

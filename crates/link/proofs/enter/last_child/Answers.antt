@@ -1,26 +1,18 @@
-use Rattle.std.proofs.Common.{subst, arith}
-use Rattle.link.specs.Entering.{Behind}
-use Rattle.link.proofs.Siblings.{behind_is, behind_more, behind_none, behind_within}
+use Rattle.std.proofs.Common.{◌≡◌, None, sym, ap, ◌∙◌, rules, of_calls}
+use Rattle.std.specs.List.{last_or}
+use Rattle.std.specs.Option.{option_map}
+use Rattle.std.proofs.lemmas.List.{map-id}
+use Rattle.std.proofs.lemmas.Iterator.{items_from_drains}
+use Rattle.std.proofs.lemmas.Iterator.Consumers.{YieldsList-from_first}
+use Rattle.link.specs.Children.{children}
+use Rattle.link.specs.Walking.{children_left}
 use Rattle.link.proofs.enter.last_child.Goals as goal
 
-pub loop-child-init : goal.loop-child-init
-loop-child-init c =
-    let (ss, tree) = c.requires.tree in
-    let first = behind_within ss c.args.at _ _ (behind_none c.args.table.now ss tree c.args.at c.requires.within) in
-    (omega (arith, tree.size), λ ss tree. behind_none c.args.table.now ss tree c.args.at c.requires.within)
-
-pub loop-child-smaller : goal.loop-child-smaller
-loop-child-smaller c =
-    let (ss, tree) = c.requires.tree in
-    let here = behind_is ss c.args.at _ _ (c.loop-child.invariant.1 ss tree) (omega arith) in
-    omega (arith, tree.size)
-
-pub loop-child-preserved : goal.loop-child-preserved
-loop-child-preserved c =
-    let t = c.args.table.now in
-    let (ss, tree) = c.requires.tree in
-    let next = behind_within ss c.args.at _ _ (behind_more t ss tree c.args.at c.loop-child.last c.loop-child.child (omega arith) (c.loop-child.invariant.1 ss tree)) in
-    (omega (arith, tree.size), λ ss tree. behind_more t ss tree c.args.at c.loop-child.last c.loop-child.child (omega arith) (c.loop-child.invariant.1 ss tree))
-
 pub returns : goal.returns
-returns c ss tree = subst (Behind ss c.args.at c.loop-child.last) c.loop-child-test.false (c.loop-child.invariant.1 ss tree)
+returns c =
+    let all = children c.args.table.now c.args.at in
+    let (xs, drains, last) = c.last.ensures.ran in
+    let (done, (before, yields, ends)) = drains in
+    let items = items_from_drains xs (before, yields, λ _. (done, ends)) (YieldsList-from_first (λ x. x) children_left {s = c.of.result} all c.of.ensures) in
+    let is : c.map.result ≡ option_map (λ p. p.0) c.last.result = search (rules, of_calls) in
+    is ∙ ap (option_map (λ p. p.0)) (last ∙ ap (last_or None) (sym (map-id xs) ∙ items))

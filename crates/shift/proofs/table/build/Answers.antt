@@ -1,34 +1,22 @@
-use Rattle.std.proofs.Common.{◌≡◌, ℕ, drop, set, sym, refl, ap, ◌∙◌, subst, arith}
+use Rattle.std.proofs.Common.{◌≡◌, length, drop, ◌++◌, refl, ap, sym, subst, ◌∙◌, arith}
+use Rattle.std.proofs.lemmas.List.{length-take-le}
 use Rattle.landmark.specs.Grammar.{words_of}
 use Rattle.words.specs.Index.{indexed}
-use Rattle.shift.specs.Table.{entries, all_bytes, number_of, TellsPlaces}
-use Rattle.shift.proofs.Admission.{admitted}
-use Rattle.shift.proofs.Filling.{filled, filled_more}
-use Rattle.shift.proofs.Numbers.{table_tells}
+use Rattle.shift.specs.Table.{entries, table_of, TellsPlaces}
+use Rattle.shift.proofs.Numbers.{right_numbers, table_tells}
 use Rattle.shift.proofs.table.build.Goals as goal
 
-pub number-requires : goal.number-requires
-number-requires c = (admitted c.args.list.now _ c.of-words.result c.in_ok-admit.ensures c.of-words.ensures).narrow
+pub slice_bounds-write-end-2 : goal.slice_bounds-write-end-2
+slice_bounds-write-end-2 c = sym (length-take-le entries c.args.table.now c.in_ok-words.ensures.1)
 
-pub bounds-table-c : goal.bounds-table-c
-bounds-table-c c = omega (arith, (admitted c.args.list.now _ c.of-words.result c.in_ok-admit.ensures c.of-words.ensures).enough)
-
-pub loop-c-preserved : goal.loop-c-preserved
-loop-c-preserved c =
-    let f = number_of (all_bytes (indexed c.of-words.result)) in
-    let enough = (admitted c.args.list.now _ c.of-words.result c.in_ok-admit.ensures c.of-words.ensures).enough in
-    let more = filled_more f c.loop-c.c c.args.table.now (omega arith) in
-    let before : c.loop-c.table ≡ filled f c.loop-c.c c.args.table.now = c.loop-c.invariant in
-    let number : c.number.result ≡ f c.loop-c.c = c.number.ensures in
-    ap (λ t. set t c.loop-c.c c.number.result) before ∙ ap (set (filled f c.loop-c.c c.args.table.now) c.loop-c.c) number ∙ more
+pub write-requires : goal.write-requires
+write-requires c = omega (arith, length-take-le entries c.args.table.now c.in_ok-words.ensures.1)
 
 pub returns : goal.returns
 returns c =
-    let f = number_of (all_bytes (indexed c.of-words.result)) in
-    let none = c.in_ok-admit.ensures in
-    let all : c.loop-c.c ≡ entries = omega arith in
-    let before : c.loop-c.table ≡ filled f c.loop-c.c c.args.table.now = c.loop-c.invariant in
-    let words = (admitted c.args.list.now _ c.of-words.result none c.of-words.ensures).words in
-    let built : c.loop-c.table ≡ filled (number_of (all_bytes (words_of c.args.list.now))) entries c.args.table.now
-    = before ∙ ap (λ (n : ℕ). filled f n c.args.table.now) all ∙ ap (λ ws. filled (number_of (all_bytes ws)) entries c.args.table.now) words in
-    record { exact = (none, refl, built); law = subst (TellsPlaces (words_of c.args.list.now)) (sym built) (table_tells (words_of c.args.list.now) (drop entries c.args.table.now)) }
+    let (none, enough, words) = c.in_ok-words.ensures in
+    let before = c.args.table.now in
+    let size : length c.write.new.table ≡ entries = omega (arith, length-take-le entries before enough) in
+    let built : c.write.new.table ++ drop entries before ≡ table_of (words_of c.args.list.now) ++ drop entries before =
+    ap (λ t. t ++ drop entries before) (right_numbers (indexed c.in_ok-words.words.index) c.write.new.table size (λ k within. c.write.ensures k (omega arith)) ∙ ap table_of words) in
+    record { exact = (none, refl, built); law = subst (TellsPlaces (words_of c.args.list.now)) (sym built) (table_tells (words_of c.args.list.now) (drop entries before)) }

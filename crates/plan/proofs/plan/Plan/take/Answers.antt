@@ -1,36 +1,33 @@
-use Rattle.std.proofs.Common.{◌∷◌, sym, refl, subst, rules}
+use Rattle.std.proofs.Common.{◌≡◌, ◌∷◌, Some, length, sym, refl, subst, ⊎_elim}
+use Rattle.landmark.specs.Grammar.{grouped, with_operator}
 use Rattle.landmark.specs.Lists.{allowance}
-use Rattle.landmark.specs.Records.{Item, item, gap, star, any}
+use Rattle.landmark.specs.Records.{item}
 use Rattle.landmark.specs.declared.element.Element.{Element}
 use Rattle.landmark.specs.declared.spacing.Spacing.{Spacing}
 use Rattle.plan.specs.Reading.{SoFar}
-use Rattle.plan.specs.declared.plan.Front.TheVariants.{Behind}
+use Rattle.plan.specs.declared.plan.Plan.{Plan}
+use Rattle.plan.specs.Rows.{Pushes}
 use Rattle.plan.proofs.ReadingLaws.{so_far_start, so_far_run, so_far_operator}
 use Rattle.plan.proofs.plan.Plan.take.Goals as goal
 
 pub returns-in-Start : goal.returns-in-Start
 returns-in-Start c is ms small f =
-    so_far_start c.args.self.now c.add_landmark.new.self c.in-Start.role c.args.front is ms small
-    (subst (λ (e : Element). SoFar c.args.self.now c.args.front (item e ∷ is) ms) c.in-Start.is f) c.add_landmark.ensures
+    so_far_start c.args.self.now _ c.in-Start.role c.args.front is ms small
+    (subst (λ (e : Element). SoFar c.args.self.now c.args.front (item e ∷ is) ms) c.in-Start.is f) c.push.ensures refl
 
 pub returns-in-Run : goal.returns-in-Run
 returns-in-Run c is ms small f =
-    subst (λ (s : Spacing). SoFar c.add_word.new.self (Behind s) is ms) (sym c.none.ensures)
-    (so_far_run c.args.self.now c.add_word.new.self c.in-Run.bytes.now c.args.front is ms small
-    (subst (λ (e : Element). SoFar c.args.self.now c.args.front (item e ∷ is) ms) c.in-Run.is f) c.add_word.ensures)
+    let p = c.args.self.now in
+    let q : Plan = record { roles = p.roles; spots = c.push-in-Run.new.self } in
+    subst (λ (s : Spacing). SoFar q (Some s) is ms) (sym c.none.ensures)
+    (so_far_run p q c.in-Run.bytes.now c.args.front is ms small
+    (subst (λ (e : Element). SoFar p c.args.front (item e ∷ is) ms) c.in-Run.is f)
+    (subst (λ n. Pushes p.spots (record { length = length c.in-Run.bytes.now; landmark = n; front = c.args.front }) q.spots) c.saturating_sub-landmark.ensures c.push-in-Run.ensures) refl)
 
-pub returns-in-Gap : goal.returns-in-Gap
-returns-in-Gap c is ms small f =
-    let i : Item = gap c.in-Gap.gap.least c.in-Gap.gap.greatest in
-    let g = subst (λ (e : Element). SoFar c.args.self.now c.args.front (item e ∷ is) ms) c.in-Gap.is f in
-    so_far_operator c.args.self.now i c.args.front _ is ms refl g (c.widened.ensures g.gap (allowance i) g.front-is (search rules))
-
-pub returns-in-Star : goal.returns-in-Star
-returns-in-Star c is ms small f =
-    let g = subst (λ (e : Element). SoFar c.args.self.now c.args.front (item e ∷ is) ms) c.in-Star.is f in
-    so_far_operator c.args.self.now star c.args.front _ is ms refl g (c.widened-in-Star.ensures g.gap (allowance star) g.front-is refl)
-
-pub returns-in-Any : goal.returns-in-Any
-returns-in-Any c is ms small f =
-    let g = subst (λ (e : Element). SoFar c.args.self.now c.args.front (item e ∷ is) ms) c.in-Any.is f in
-    so_far_operator c.args.self.now any c.args.front _ is ms refl g (c.widened-in-Any.ensures g.gap (allowance any) g.front-is refl)
+pub returns-in_ok-front-in-Gap : goal.returns-in_ok-front-in-Gap
+returns-in_ok-front-in-Gap c is ms small f =
+    let e = c.args.element in
+    let groups : grouped (item e ∷ is) ≡ with_operator (item e) (grouped is) =
+    ⊎_elim (λ (x, at). rw at refl) (λ other. ⊎_elim (λ at. rw at refl) (λ at. rw at refl) other) c.in-Gap.is in
+    so_far_operator c.args.self.now (item e) c.in_ok-front-in-Gap.field-0 c.plus.result is ms groups (λ g had. c.plus.ensures g (allowance (item e)) had c.allowance.ensures)
+    (subst (λ (x : _). SoFar c.args.self.now x (item e ∷ is) ms) c.in_ok-front-in-Gap.was f)

@@ -1,8 +1,7 @@
-use Rattle.scan.proofs.Calling.{accepted, carried-out_so, same-scan}
+use Rattle.std.proofs.Common.{arith}
+use Rattle.std.proofs.lemmas.Grind.{common_steps}
+use Rattle.scan.proofs.Calling.{carried-out_so}
 use Rattle.scan.proofs.scan.Scan.carry_out.Goals as goal
-use Rattle.std.proofs.Common.{sym}
 
 pub returns : goal.returns
-returns g c =
-    carried-out_so g.F.Finder.words g.F.Finder.halves _ _ _ _
-    (accepted _ c.args.order _ _ _ _ (sym c.if-not-has_out.ensures) (same-scan g.F.Finder.words g.F.Finder.halves _ c.args.self.now _ _))
+returns g c = carried-out_so g.F.Finder c.args.self.now c.args.order c.settle.new.self c.map.result (grind (arith, common_steps))

@@ -1,6 +1,6 @@
-use Rattle.std.proofs.Common.{sym, subst}
+use Rattle.std.proofs.Common.{◌≡◌, sym, ap, ◌∙◌, subst, rules}
 use Rattle.std.proofs.lemmas.Bool.Decides.{not_from_Decides}
-use Rattle.track.specs.Telling.{Reaches, rear_by_next}
+use Rattle.track.specs.Telling.{Reaches, rear_by_front, rear_by_next}
 use Rattle.track.proofs.Taking.{word-absent, word-passed, word-reached}
 use Rattle.track.proofs.tracks.Tracks.take_word.Goals as goal
 
@@ -9,7 +9,9 @@ returns-then-is_reached c =
     let t = c.args.self.now in
     let k = c.args.word in
     let spot = c.in-Some.spot in
-    let kept = subst (λ o. Reaches (rear_by_next o) t k spot.landmark c.args.end c.reach.new.self) c.spot-then-is_reached.ensures c.reach.ensures in
+    let behind : rear_by_front c.and_then-behind.result ≡ rear_by_next c.spot-then-is_reached.result = search rules in
+    let same = behind ∙ ap rear_by_next c.spot-then-is_reached.ensures in
+    let kept = subst (λ r. Reaches r t k spot.landmark c.args.end c.reach.new.self) same c.reach.ensures in
     word-reached c.args.plan.now t k c.args.end spot (sym c.in-Some.ensures) c.reach.new.self (c.is_reached.ensures.0 c.if-is_reached.true) kept
 
 pub returns-else-is_reached : goal.returns-else-is_reached

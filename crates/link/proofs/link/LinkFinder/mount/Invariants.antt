@@ -1,0 +1,6 @@
+use Rattle.nodes.specs.Nodes.{strings}
+use Rattle.words.specs.Index.{indexed}
+use Rattle.link.proofs.link.LinkFinder.mount.Given as goal
+
+abbrev pub ghost-on : goal.ghost-on
+ghost-on a = strings (indexed a.words)

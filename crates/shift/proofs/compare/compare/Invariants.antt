@@ -1,8 +1,0 @@
-use Rattle.std.proofs.Common.{ℕ, ◌<◌}
-use Rattle.words.specs.Index.{indexed}
-use Rattle.shift.specs.Comparing.{RightAt}
-use Rattle.shift.proofs.compare.compare.Given as goal
-
--- the numbers so far are right
-abbrev pub invariant-loop-c : goal.invariant-loop-c
-invariant-loop-c l = (k : ℕ) → k < l.c → RightAt (indexed l.words) l.table k
