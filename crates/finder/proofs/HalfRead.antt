@@ -111,6 +111,10 @@ advance-half_read (w ∷ ws) b bytes = let this = advance-defined b bytes w in l
 pub length-half_read : (ws : List (List ℕ)) (bytes : List ℕ) → length (half_read ws bytes) ≡ length ws
 length-half_read ws bytes = length-map ws (defined bytes)
 
+-- at rest
+pub length-at_rest : (ws : List (List ℕ)) → length (at_rest ws) ≡ length ws
+length-at_rest ws = length-map ws (λ w. 0 ∷ [])
+
 -- and by steps
 pub length-advance_all : (ws : List (List ℕ)) (b : ℕ) (hss : List (List ℕ)) → length hss ≡ length ws → length (advance_all ws b hss) ≡ length ws
 length-advance_all [] b hss one = refl

@@ -1,5 +1,6 @@
 -- What a finder comes to over a row of bytes, and what that means by the bytes and the words alone.
-use Rattle.std.proofs.Common.{ℕ, ◌<◌, List, [], ◌∷◌, ◌++◌, length, get_or, Decides, refl}
+use Rattle.std.proofs.Common.{ℕ, ◌<◌, ◌≤◌, List, [], ◌∷◌, ◌++◌, length, get_or, take, Decides, refl}
+use Rattle.std.specs.List.{ContainsAt as Has}
 use Rattle.finder.specs.Words.{word, half_read, holds, mask, Rested, Took}
 use Rattle.finder.specs.Meaning.{ExactlyIf, EndsWith, Bit, Heard, FollowsBytes}
 use Rattle.finder.specs.declared.finder.Finder.{Ghosts}
@@ -12,6 +13,13 @@ found_half_read ws bytes k within =
     let by_bit = mask-bit ws (half_read ws bytes) k (length-half_read ws bytes) within in
     let by_bytes : Decides (holds (length (word ws k)) (get_or (half_read ws bytes) k [])) (EndsWith bytes (word ws k)) = rw (word-half_read ws bytes k within) (decides_whole bytes (word ws k)) in
     (λ set. by_bytes.0 (by_bit.1 set), λ ends. by_bit.0 (by_bytes.1 ends))
+
+-- what the bytes define is what they mean: each length, the bit of each word, and no other bit
+pub half_read-follows : (ws : List (List ℕ)) (bytes : List ℕ)
+    → ((k h : ℕ) → k < length ws → ExactlyIf (Has (get_or (half_read ws bytes) k []) h) ((h ≤ length (word ws k)) × EndsWith bytes (take h (word ws k))))
+    × ((k : ℕ) → k < length ws → ExactlyIf (Bit (mask ws (half_read ws bytes)) k) (EndsWith bytes (word ws k)))
+    × ((k : ℕ) → length ws ≤ k → Bit (mask ws (half_read ws bytes)) k → ⊥)
+half_read-follows ws bytes = (λ k h within. rw (word-half_read ws bytes k within) (defined-means bytes (word ws k) h), found_half_read ws bytes, mask-past ws (half_read ws bytes))
 
 -- finders of any kind F
 module _ {F : Type 0} (finder : Ghosts F) where
@@ -37,9 +45,5 @@ module _ {F : Type 0} (finder : Ghosts F) where
   -- what a finder has heard is what the bytes mean
   pub heard_follows : (s t : F) (bytes : List ℕ) (r : ℕ) → Heard finder s bytes t r → FollowsBytes finder s bytes t r
   heard_follows s t bytes r heard =
-      let ws = finder.words s in
-      record {
-        half = λ k h within. rw (heard.half, word-half_read ws bytes k within) (defined-means bytes (word ws k) h);
-        found = λ k within. rw heard.tells (found_half_read ws bytes k within);
-        other = λ k past. rw heard.tells (mask-past ws (half_read ws bytes) k past);
-      }
+      let (half, found, other) = half_read-follows (finder.words s) bytes in
+      record { half = rw heard.half half; found = rw heard.tells found; other = rw heard.tells other }

@@ -10,10 +10,14 @@ use Rattle.landmark.specs.declared.refusal.Refusal.{Refusal}
 abbrev pub Bytes : List ℕ → Type 0
 Bytes l = (k : ℕ) → get_or l k 0 < 256
 
+-- a refusal is no item
+no_item : {P : Type 0} (why : Refusal) (i : Item) → Err why ≡ Ok i → P
+no_item why i e = cc
+
 -- a test that is passed on the way to an item
 passed : (b : Bool) (x : Result Item Refusal) (why : Refusal) (i : Item) → cond b x (Err why) ≡ Ok i → (b ≡ true) × (x ≡ Ok i)
 passed true x why i h = (refl, h)
-passed false x why i h = cc
+passed false x why i h = no_item why i h
 
 same_item : (i j : Item) → ◌≡◌ {A = Result Item Refusal} (Ok i) (Ok j) → i ≡ j
 same_item i j e = cc
@@ -78,7 +82,7 @@ item-content kind body i e =
     cond_both (eqb kind 2) _ _ P (λ t is. subst (λ k. Content k body i) (sym (eqb-true kind 2 t)) (run_content body i is)) (λ _.
     cond_both (eqb kind 3) _ _ P (λ t is. subst (λ k. Content k body i) (sym (eqb-true kind 3 t)) (gap_content body i is)) (λ _.
     cond_both (eqb kind 4) _ _ P (λ t is. bare-content kind star body i (eqb-true kind 4 t) refl refl is) (λ _.
-    cond_both (eqb kind 5) _ _ P (λ t is. bare-content kind any body i (eqb-true kind 5 t) refl refl is) (λ _ none. cc))))) e
+    cond_both (eqb kind 5) _ _ P (λ t is. bare-content kind any body i (eqb-true kind 5 t) refl refl is) (λ _ none. no_item _ i none))))) e
 
 -- the record at a place is whole, and its kind and body are those of the item
 pub record Stands (l : List ℕ) (p : ℕ) (i : Item) : Type 0 where

@@ -14,7 +14,7 @@ use Rattle.landmark.specs.declared.refusal.Fault.{Fault}
 use Rattle.landmark.proofs.ContentLaws.{Bytes, stands, two_split}
 use Rattle.landmark.proofs.GrammarLaws.{Accepts, Fit, accepted_well_formed, well_formed_accepted, grouped-list}
 use Rattle.landmark.proofs.JudgeLaws.{adds_gap}
-use Rattle.landmark.proofs.ListLaws.{parts-at_end, parts-at_record}
+use Rattle.landmark.proofs.ListLaws.{parts-at_end, parts-at_record, parts-at_fault}
 use Rattle.landmark.proofs.RecordLaws.{encoded_item, item_from, size-from, two_again}
 
 -- the records reach the list's end
@@ -245,3 +245,8 @@ pub complete_record : (l : List ℕ) (p : ℕ) (i : Item) → item_at l p ≡ Ok
 complete_record l p i e whole =
     let fits = (stands l p i e).fits in
     subst Complete (parts-at_record l p i (omega arith) e) whole
+
+-- where no record stands, complete records end
+pub complete_fault : (l : List ℕ) (p : ℕ) (why : Refusal) → item_at l p ≡ Err why → Complete (parts_from l p) → parts_from l p ≡ ended
+complete_fault l p why e whole =
+    ⊎_elim (λ before. absurd (subst Complete (parts-at_fault l p why before e) whole)) (λ past. parts-at_end l p past) (cases_lt p (length l))

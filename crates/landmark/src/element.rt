@@ -103,6 +103,7 @@ impl Element<'_> {
     }
 
     // The gap that an operator stands for, and none for a start or a run.
+    #[inline(always)]
     pub fn allowance(self) -> Spacing
         ensures { result ≡ capped (allowance (item self.entry)) }
     {

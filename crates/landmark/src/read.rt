@@ -73,6 +73,7 @@ fn read_body<'a>(kind: u16, body: &'a [u8]) -> Result<Element<'a>, Refusal>
 }
 
 // The element at a place of the list, with that place and the place after it.
+#[inline(always)]
 pub fn read_element<'a>(list: &'a [u8], place: usize) -> Result<Read<'a>, Fault>
     ensures { Reads list.now place result }
 {

@@ -41,6 +41,12 @@ module _ (ws : List (List ℕ)) (at : ℕ) (t : List Node) (ready : Ready ws at 
       let shorter = (back_is ss ready.tree.table.closed.root s (some_string above)).shorter in
       ap (λ (x : Node). x.back) (ready.done n below (omega (arith, ap length from-string)))
 
+  -- below the root it is the root
+  pub back_root : (b : ℕ) → at ≡ 0 → 0 ≡ back_link ss (s ++ (b ∷ []))
+  back_root b z =
+      let empty : s ≡ [] = ap (string ss) z ∙ ready.tree.table.rooted.first in
+      sym (ready.tree.table.distinct 0 ready.tree.table.rooted.some) ∙ ap (number ss) ready.tree.table.rooted.first ∙ sym (ap (λ u. back_link ss (u ++ (b ∷ []))) empty)
+
   -- and else where the byte leads
   pub back_followed : (b r : ℕ) → 0 < at → Leads ss from b r → r ≡ back_link ss (s ++ (b ∷ []))
   back_followed b r above (below, leads) =

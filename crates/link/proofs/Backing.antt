@@ -1,5 +1,5 @@
 -- The longest proper suffix of a string that is a node's, suffix by suffix.
-use Rattle.std.proofs.Common.{◌≡◌, ℕ, ◌+◌, ◌<◌, ◌≤◌, List, ◌∷◌, length, get_or, drop, sym, ap, ◌∙◌, subst, arith}
+use Rattle.std.proofs.Common.{◌≡◌, ℕ, ◌+◌, ◌<◌, ◌≤◌, List, [], ◌∷◌, length, get_or, drop, sym, refl, ap, ◌∙◌, subst, arith}
 use lib.Seq.{take-length}
 use Rattle.std.specs.List.{ContainsAt as Has}
 use Rattle.std.proofs.lemmas.List.{drop_all, drop_more}
@@ -14,6 +14,11 @@ use Rattle.link.proofs.Making.{makes_node, makes_number, makes_string}
 -- the longest suffix from a place on is the longest proper one
 abbrev pub LeftFrom : List (List ℕ) → List ℕ → ℕ → Type 0
 LeftFrom ss s from = longest ss (drop from s) ≡ back_string ss s
+
+-- it is from the second byte on
+pub left-start : (ss : List (List ℕ)) (s : List ℕ) → LeftFrom ss s 1
+left-start ss [] = refl
+left-start ss (b ∷ s) = refl
 
 module _ (ws : List (List ℕ)) (s : List ℕ) (from : ℕ) (left : LeftFrom (strings ws) s from) where
   -- a suffix that no word begins with is passed over

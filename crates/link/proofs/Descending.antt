@@ -13,7 +13,7 @@ use Rattle.nodes.proofs.Suffixes.{parent-last, parent-push}
 use Rattle.link.specs.Backing.{FinishedUpto, Finishes, ReadyChildren, child_of, finished}
 use Rattle.link.specs.Table.{node_at}
 use Rattle.link.specs.declared.node.Node.{Node}
-use Rattle.link.proofs.Finishing.{finishes_keeps, finishes_more, finishes_same, tree_finishes}
+use Rattle.link.proofs.Finishing.{finishes_keeps, finishes_more, finishes_none, finishes_same, tree_finishes}
 
 -- the number of a node's parent
 abbrev pub parent_of : List (List ℕ) → ℕ → ℕ
@@ -77,6 +77,10 @@ module _ (ss : List (List ℕ)) (table : T.Table ss) where
 module _ (ws : List (List ℕ)) (depth : ℕ) (t : List Node) (start : FinishedUpto ws depth t) where
   abbrev strs : List (List ℕ)
   strs = strings ws
+
+  -- at first no child is finished
+  pub depth_none : Finishes ws (born_before strs depth 0) t t
+  depth_none = finishes_none ws _ t (λ n h. born-late depth 0 (length (string strs n)) (parent_of strs n) (omega arith))
 
   -- the next depth is finished behind the last node
   pub depth_all : (at : ℕ) (u : List Node) → length u ≤ at → Finishes ws (born_before strs depth at) t u → FinishedUpto ws (depth + 1) u

@@ -64,6 +64,15 @@ module _ (t : List Node) (ss : List (List ℕ)) (tree : Tree t ss) where
   tree_next n b c some other p =
       subst (Passed ss n b) (sym (tree.next c p.within)) (passed_next ss n b c tree.table.rooted some (λ e. other (tree.byte c p.within ∙ e)) p)
 
+  -- the siblings end
+  pub tree_falls : (n b c : ℕ) → 0 < c → Passed ss n b c → left (length t) (node_at t c).next < left (length t) c
+  tree_falls n b c some p =
+      let next = (node_at t c).next in
+      let within : c < length t = subst (λ m. c < m) (sym tree.size) p.within in
+      let is = tree.next c p.within in
+      let later : 0 < next → c < next = λ h. subst (λ x. c < x) (sym is) (next_sibling-some ss c (string ss n) (string ss c) (p.child some) (subst (λ x. 0 < x) is h)).from in
+      left-falls (length t) next c some within later
+
 -- a child is where its byte leads
 pub child-leads : (ss : List (List ℕ)) (n b c : ℕ) → Child ss n b (Some c) → Leads ss n b c
 child-leads ss n b c (below, is) = (below, is ∙ sym (step-child ss (string ss n) b (subst (Has ss) is (has_string ss c below))))
@@ -86,6 +95,10 @@ module _ (t : List Node) (ss : List (List ℕ)) (tree : Tree t ss) (from b at : 
   -- a child that was found is where the byte leads
   pub found_child : (c : ℕ) → Child ss at b (Some c) → Leads ss from b c
   found_child c child = let (below, is) = child-leads ss at b c child in (below, is ∙ way.leads)
+
+  -- so is where it leads from the root
+  pub found_root : (top : ℕ) → at ≡ 0 → Leads ss 0 b top → Leads ss from b top
+  found_root top z (below, is) = (below, is ∙ ap (λ n. step ss (string ss n) b) (sym z) ∙ way.leads)
 
   -- the back link goes on, and is shorter
   back_here : (node_at t at).back ≡ back_link ss (string ss at)

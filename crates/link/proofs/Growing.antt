@@ -37,6 +37,10 @@ strings-there us v b has = strings-grow us v b ∙ cond-true _ _ _ ((decides_amo
 pub strings-new : (us : List (List ℕ)) (v : List ℕ) (b : ℕ) → (Has (strings (us ++ (v ∷ []))) (v ++ (b ∷ [])) → ⊥) → strings (us ++ ((v ++ (b ∷ [])) ∷ [])) ≡ strings (us ++ (v ∷ [])) ++ ((v ++ (b ∷ [])) ∷ [])
 strings-new us v b new = strings-grow us v b ∙ cond-false _ _ _ (among_none _ _ new)
 
+-- no symbols add nothing
+pub strings-nothing : (us : List (List ℕ)) → strings (us ++ ([] ∷ [])) ≡ strings us
+strings-nothing us = strings-word us []
+
 -- there are few symbols in all
 pub few_symbols : (ws : List (List ℕ)) → length ws ≤ most_words → ((k : ℕ) → k < length ws → WellSized (word ws k)) → sum_by length ws ≤ most_words * longest_word
 few_symbols ws few sized =

@@ -1,5 +1,5 @@
 -- The children of a node linked back, one behind the other.
-use Rattle.std.proofs.Common.{◌≡◌, ℕ, ◌<◌, Bool, true, false, ◌&&◌, ◌||◌, eqb, ltb, List, length, set, sym, ap, ◌∙◌, subst, ⊎_elim, arith}
+use Rattle.std.proofs.Common.{◌≡◌, ℕ, ◌<◌, Bool, true, false, ◌&&◌, ◌||◌, eqb, ltb, List, length, set, sym, refl, ap, ◌∙◌, subst, ⊎_elim, arith}
 use Rattle.std.proofs.lemmas.List.{get_or-set_same, length-set}
 use Rattle.std.proofs.lemmas.Bool.{and_from, and_left, and_right, both_ways, cases_Bool, cases_eq, eq-eqb, ne_eqb, cond-false, or_from, or_left}
 use Rattle.std.proofs.lemmas.Bool.Decides.{nat_tests}
@@ -9,7 +9,7 @@ use Rattle.nodes.proofs.Children.{first_child-none, first_child-some, next_sibli
 use Rattle.link.specs.Backing.{Finishes, OpenChild, Ready, ReadyChildren, child_of, finished}
 use Rattle.link.specs.Table.{node_at, no_node}
 use Rattle.link.specs.declared.node.Node.{Node}
-use Rattle.link.proofs.Finishing.{finishes_more, finishes_none, finishes_one, ready_finishes}
+use Rattle.link.proofs.Finishing.{finishes_more, finishes_none, finishes_one, finishes_same, ready_finishes}
 use Rattle.link.proofs.Following.{left, left-falls}
 
 -- the number n comes before c, any where c is 0
@@ -31,6 +31,11 @@ before-later next c later = grind (arith, nat_tests)
 
 before-other : (next c n : ℕ) → 0 < c → (n ≡ c → ⊥) → (0 < next → c < next) → (c < n → next ≡ 0 → ⊥) → (c < n → n < next → ⊥) → before next n ≡ before c n
 before-other next c n some other later ends between = grind (arith, nat_tests)
+
+-- with none left, all children
+and_true : (x : Bool) → (x && true) ≡ x
+and_true true = refl
+and_true false = refl
 
 module _ (ws : List (List ℕ)) (at : ℕ) (t : List Node) (ready : ReadyChildren ws at t) where
   abbrev ss : List (List ℕ)
@@ -59,6 +64,10 @@ module _ (ws : List (List ℕ)) (at : ℕ) (t : List Node) (ready : ReadyChildre
     child = λ some. (first_child-some ss s some).passes;
     finishes = finishes_none ws _ t none_before;
   })
+
+  -- all are behind the last
+  pub linked_all : (u : List Node) → LinkedUpto ws at 0 t u → Finishes ws (child_of ws at) t u
+  linked_all u linked = finishes_same ws _ (child_of ws at) t u (λ n h. and_true (child_of ws at n)) linked.finishes
 
   module _ (c : ℕ) (u : List Node) (some : 0 < c) (linked : LinkedUpto ws at c t u) where
     -- what the next needs is finished

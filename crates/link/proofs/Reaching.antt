@@ -2,10 +2,10 @@
 use Rattle.std.proofs.Common.{◌≡◌, ℕ, ◌+◌, ◌<◌, List, [], ◌∷◌, ◌++◌, length, get_or, take, set, Some, None, Option, sym, refl, ap, ◌∙◌, subst, arith}
 use Rattle.std.specs.List.{ContainsAt as Has}
 use Rattle.std.proofs.ByRecursion.{has_append_left}
-use Rattle.std.proofs.lemmas.List.{get_or_push, get_or-set_other, length_push, length-take, take_more}
+use Rattle.std.proofs.lemmas.List.{get_or_push, get_or-set_other, get_or-take, length_push, length-take, take_more}
 use Rattle.nodes.specs.Nodes.{strings, string}
 use Rattle.nodes.proofs.Strings.{has_string, has_word}
-use Rattle.link.specs.Entering.{Behind, Entered, InFront, Reaches}
+use Rattle.link.specs.Entering.{Behind, Entered, Holds, InFront, Reaches}
 use Rattle.link.specs.Table.{Child, node_at, no_node}
 use Rattle.link.specs.declared.enter.Reached.{Reached}
 use Rattle.link.specs.declared.node.Node.{Node}
@@ -13,7 +13,7 @@ use Rattle.link.proofs.Adding.{Relinked, entered_new, linked_first, linked_next,
 use Rattle.link.proofs.Changes.{leaf, with_links}
 use Rattle.link.proofs.Walk.{IsLast, child_answer, last_answer, tree_chained}
 use Rattle.link.specs.Children.{Chained, child_with, last_child}
-use Rattle.link.proofs.Growing.{strings-new, strings-there}
+use Rattle.link.proofs.Growing.{strings-new, strings-nothing, strings-there}
 
 module _ (us : List (List ℕ)) (v : List ℕ) (before t : List Node) (r : Reached) (reaches : Reaches us v before t r) where
   abbrev ss : List (List ℕ)
@@ -74,6 +74,12 @@ module _ (us : List (List ℕ)) (v : List ℕ) (before t : List Node) (r : Reach
           subst (λ n. Relinked ss more t (set t last (with_links (node_at t last) (node_at t last).first n))) (sym size)
           (linked_next t ss entered_here.tree r.node b last within_here behind (omega (arith, size)) some)
 
+    -- the node reached stays as deep as the symbols are many
+    pub depth_linked : (u : List Node) → Relinked ss more t u → (node_at u r.node).depth ≡ length v
+    depth_linked u linked =
+        let depth : Node → ℕ = λ x. x.depth in
+        ap depth (linked.links r.node within_here) ∙ ap depth (sym (get_or-take (length ss) t r.node no_node within_here)) ∙ entered_here.tree.depth r.node within_here ∙ ap length reaches.node
+
     -- the new node is reached
     pub reaches_new : (u : List Node) → Relinked ss more t u → r.count < length u → (Has ss (v ++ (b ∷ [])) → ⊥)
         → Reaches us (v ++ (b ∷ [])) before (set u r.count (leaf ((node_at u r.node).depth + 1) b)) (record { node = r.count; count = r.count + 1 })
@@ -109,6 +115,17 @@ module _ (us : List (List ℕ)) (v : List ℕ) (before t : List Node) (r : Reach
     -- or there is none
     pub none_there : Child ss r.node b None → Has ss (v ++ (b ∷ [])) → ⊥
     none_there none has = none (subst (λ s. Has ss (s ++ (b ∷ []))) (sym reaches.node) has)
+
+-- a word begins at the root
+pub reaches_root : (us : List (List ℕ)) (count : ℕ) (before t : List Node) → Holds us count before t → Reaches us [] before t (record { node = 0; count = count })
+reaches_root us count before t holds =
+    let same = strings-nothing us in
+    let rooted = holds.entered.tree.table.rooted in
+    record {
+      front = subst (λ ss. InFront us ss count before t) (sym same) holds;
+      within = omega (arith, holds.size, rooted.some);
+      node = ap (λ ss. string ss 0) same ∙ rooted.first;
+    }
 
 -- and goes on with its next symbol
 pub reaches_more : (us : List (List ℕ)) (w : List ℕ) (before t : List Node) (r : Reached) (i b : ℕ) → i < length w → b ≡ get_or w i 0 → Reaches us (take i w ++ (b ∷ [])) before t r → Reaches us (take (i + 1) w) before t r

@@ -1,9 +1,9 @@
 -- Where bytes lead from the root, and the row of these, filled by a walk over the root's children.
-use Rattle.std.proofs.Common.{◌≡◌, ℕ, ◌<◌, List, [], ◌∷◌, ◌++◌, length, get_or, set, replicate, Some, None, Option, sym, ap, ◌∙◌, subst, ⊎_elim, arith}
+use Rattle.std.proofs.Common.{◌≡◌, ℕ, ◌<◌, List, [], ◌∷◌, ◌++◌, length, get_or, set, replicate, Some, None, Option, sym, refl, ap, ◌∙◌, subst, ⊎_elim, arith}
 use Rattle.std.specs.Option.{unwrap_or}
 use Rattle.std.proofs.lemmas.List.{get_or_past, get_or-replicate, get_or-set_other, get_or-set_same, length-replicate}
 use Rattle.std.proofs.lemmas.Bool.{cases_eq, cases_lt}
-use Rattle.nodes.specs.Nodes.{string}
+use Rattle.nodes.specs.Nodes.{string, strings}
 use Rattle.nodes.specs.Tables as T
 use Rattle.nodes.proofs.Children.{decides_child}
 use Rattle.link.specs.Entering.{Behind}
@@ -11,7 +11,7 @@ use Rattle.link.specs.Table.{Child, Leads, RootRow, Tree, node_at}
 use Rattle.link.specs.declared.node.Node.{Node}
 use Rattle.link.proofs.Walk.{siblings-more, siblings-none, tree_chained}
 use Rattle.link.specs.Children.{children, siblings}
-use Rattle.link.proofs.Following.{Passed, child-leads, passed_all, root_stays, tree_first, tree_next}
+use Rattle.link.proofs.Following.{Passed, child-leads, left, left-falls, passed_all, root_stays, tree_first, tree_next}
 use Rattle.link.proofs.Siblings.{behind_is, behind_more, behind_none, behind_within}
 
 -- a byte leads from the root to its child, or stays
@@ -45,6 +45,9 @@ module _ (t : List Node) (ss : List (List ℕ)) (tree : Tree t ss) where
     next-walk : 0 < c → Behind ss 0 c (node_at t c).next
     next-walk some = behind_more t ss tree 0 _ c some upto.walk.1
 
+    pub row_falls : 0 < c → left (length t) (node_at t c).next < left (length t) c
+    row_falls some = left-falls (length t) (node_at t c).next c some row_within (λ more. (behind_is ss 0 c _ (next-walk some) more).later)
+
     -- the child itself goes into the row at its byte
     pub row_more : 0 < c → (node_at t c).byte < length row → RowUpto ss (set row (node_at t c).byte c) (node_at t c).next
     row_more some short = record { walk = (c, next-walk some); none = none; some = filled }
@@ -75,6 +78,10 @@ module _ (t : List Node) (ss : List (List ℕ)) (tree : Tree t ss) where
       (λ z. subst (Leads ss 0 b) (sym z) (root_stays ss b tree.table.rooted (passed_all ss 0 b (upto.none b z))))
       (λ more. child-leads ss 0 b _ (upto.some b (omega arith)))
       (cases_eq (get_or row b 0) 0)
+
+-- without words no byte leads away from the root
+pub row_empty : (ws : List (List ℕ)) (n : ℕ) → ws ≡ [] → RootRow (strings ws) (replicate n 0)
+row_empty ws n none b = subst (λ us. Leads (strings us) 0 b (get_or (replicate n 0) b 0)) (sym none) (subst (Leads (strings []) 0 b) (sym (zeros n b)) (omega arith, refl))
 
 -- the row has the children before the siblings ps
 pub record RowBefore (t : List Node) (ss : List (List ℕ)) (row : List ℕ) (ps : List (ℕ × ℕ)) : Type 0 where

@@ -1,5 +1,6 @@
 -- The first entries of a table, from the root on.
-use Rattle.std.proofs.Common.{◌≡◌, ℕ, zero, suc, ◌<◌, List, [], ◌∷◌, length, set, refl, arith}
+use Rattle.std.proofs.Common.{◌≡◌, ℕ, zero, suc, ◌<◌, List, [], ◌∷◌, length, set, refl, ◌∙◌, arith}
+use Rattle.std.proofs.lemmas.List.{get_or-set_other}
 use Rattle.nodes.specs.Nodes.{strings, string, last_byte, first_child, next_sibling, own_mask}
 use Rattle.nodes.proofs.Strings.{table_strings}
 use Rattle.link.specs.Entering.{Holds}
@@ -34,3 +35,11 @@ holds-root (x ∷ t) some = record {
 -- the table may be its own start
 pub holds-own : (us : List (List ℕ)) (count : ℕ) (before t : List Node) → Holds us count before t → Holds us count t t
 holds-own us count before t holds = record { size = holds.size; entered = holds.entered; rest = λ n above. refl }
+
+-- or its start may be before the root was written
+pub holds-unrooted : (us : List (List ℕ)) (count : ℕ) (before t : List Node) → Holds us count (set before 0 no_node) t → Holds us count before t
+holds-unrooted us count before t holds = record {
+  size = holds.size;
+  entered = holds.entered;
+  rest = λ n above. holds.rest n above ∙ get_or-set_other before 0 n no_node no_node (λ e. omega (arith, holds.size, holds.entered.tree.table.rooted.some));
+}

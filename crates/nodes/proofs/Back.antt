@@ -97,3 +97,7 @@ step_back ss closed (c ∷ s) b some not = longest-rest ss c (s ++ (b ∷ [])) n
 pub back_child : (ss : List (List ℕ)) → Closed ss → (s : List ℕ) (b : ℕ) → 0 < length s → back_string ss (s ++ (b ∷ [])) ≡ step ss (back_string ss s) b
 back_child ss closed [] b some = absurd (omega arith)
 back_child ss closed (c ∷ s) b some = sym (longest-push ss closed s b)
+
+-- that of a child of the root is the root
+pub back_first : (ss : List (List ℕ)) (b : ℕ) → back_string ss (b ∷ []) ≡ []
+back_first ss b = refl

@@ -60,6 +60,10 @@ decides_child s (b ∷ t) =
     let last = last_byte (b ∷ t) in
     Decides-like _ (λ is. parent-last (b ∷ t) (omega arith) ∙ ap (λ u. u ++ (last ∷ [])) is) (λ is. ap parent is ∙ parent-push s last) (decides_same (parent (b ∷ t)) s)
 
+-- two children of one string with the same last byte are one
+pub same-child : (s t u : List ℕ) → is_child s t ≡ true → is_child s u ≡ true → last_byte t ≡ last_byte u → t ≡ u
+same-child s t u this other last = (decides_child s t).0 this ∙ ap (λ b. s ++ (b ∷ [])) last ∙ sym ((decides_child s u).0 other)
+
 -- a string of some bytes is a child of its parent alone
 pub child-is : (s t : List ℕ) → 0 < length t → is_child s t ≡ same (parent t) s
 child-is s [] some = absurd (omega arith)
@@ -141,6 +145,10 @@ next_sibling-push ss n s b [] rooted within some none = absurd (omega arith)
 next_sibling-push ss n s b (c ∷ u) rooted within some none =
     let p = parent (c ∷ u) in
     lowest-push ss (is_child p) (suc n) (s ++ (b ∷ [])) within ((lowest-none ss (is_child p) (suc n) (child-root ss p rooted)).0 none) ∙ ap (λ t. cond t (length ss) 0) (child-push p s b)
+
+-- the root has no sibling
+pub next_sibling-root : (ss : List (List ℕ)) (n : ℕ) → next_sibling ss n [] ≡ 0
+next_sibling-root ss n = refl
 
 -- nor has the last string a next one
 pub next_sibling-last : (ss : List (List ℕ)) (n : ℕ) (u : List ℕ) → length ss ≤ suc n → next_sibling ss n u ≡ 0

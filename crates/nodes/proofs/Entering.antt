@@ -2,15 +2,21 @@
 use Rattle.std.proofs.Common.{◌≡◌, ℕ, zero, suc, ◌+◌, ◌-◌, ◌<◌, ◌≤◌, List, [], ◌∷◌, ◌++◌, length, get_or, take, drop, sum_by, sym, refl, ap, ◌∙◌, subst, ⊎_elim, arith, drop-cons, take-suc}
 use lib.Seq.{append_snoc}
 use Rattle.std.specs.List.{ContainsAt as Has, flat_map, AllByRecursion}
-use Rattle.std.proofs.lemmas.List.{append-nil, append_assoc, length_push, length-append, length-take, length-take-le, length-drop, get_or-take, get_or-drop, get_or-append-add, get_or_append_left, take-append-drop, drop_all}
-use Rattle.std.proofs.ByRecursion.{has_push_cases, All-from_get_or}
+use Rattle.std.proofs.lemmas.List.{append-nil, take_more, append_assoc, length_push, length-append, length-take, length-take-le, length-drop, get_or-take, get_or-drop, get_or-append-add, get_or_append_left, take-append-drop, drop_all}
+use Rattle.std.proofs.ByRecursion.{has_push, has_push_cases, All-from_get_or}
 use Rattle.std.proofs.lemmas.List.Sums.{sum_by-cons}
 use Rattle.std.proofs.lemmas.Bool.{cases_eq, cases_order, cond_both, cond-true, cond-false}
 use Rattle.std.proofs.lemmas.Bool.Decides.{not_from_Decides}
 use Rattle.finder.specs.Words.{word}
 use Rattle.nodes.specs.Nodes.{among, prefixes, add, add_all, strings, string, shared_upto, shared}
-use Rattle.nodes.specs.Tables.{Closed}
-use Rattle.nodes.proofs.Strings.{decides_among, among_none, add_all-keeps, length-prefixes, prefix_at, closed_strings}
+use Rattle.nodes.specs.Tables.{Closed, Table}
+use Rattle.nodes.proofs.Strings.{decides_among, among_none, add_all-keeps, length-prefixes, prefix_at, closed_strings, table_push}
+
+-- a word that is entered up to its first n bytes: those are there, and no more of it
+pub record Entered (ss : List (List ℕ)) (w : List ℕ) (n : ℕ) : Type 0 where
+  pub table : Table ss
+  pub there : Has ss (take n w)
+  pub new : (d : ℕ) → n < d → d ≤ length w → Has ss (take d w) → ⊥
 
 -- what the search for the longest prefix gives
 record Shares (ss : List (List ℕ)) (w : List ℕ) (n r : ℕ) : Type 0 where
@@ -164,3 +170,20 @@ string-entered ws i d inside above within =
     let parts : ws ≡ (us ++ (w ∷ [])) ++ drop (suc i) ws = sym (take-append-drop (suc i) ws) ∙ ap (λ vs. vs ++ drop (suc i) ws) (take-suc ws i [] inside) in
     let below : j < length (strings (us ++ (w ∷ []))) = omega (arith, length-strings_push us w) in
     ap (λ vs. string (strings vs) j) parts ∙ string-kept (us ++ (w ∷ [])) (drop (suc i) ws) j below ∙ string-pushed us w d above within
+
+-- entering a word begins behind what it shares
+pub entered_start : (ss : List (List ℕ)) (w : List ℕ) → Table ss → Entered ss w (shared ss w)
+entered_start ss w table = record { table = table; there = shared-there ss w table.closed.root; new = shared-most ss w }
+
+-- and goes on prefix by prefix
+pub entered_more : (ss : List (List ℕ)) (w : List ℕ) (n : ℕ) → n < length w → Entered ss w n → Entered (ss ++ (take (suc n) w ∷ [])) w (suc n)
+entered_more ss w n inside before =
+    let last = take-suc w n 0 inside in
+    let new = subst (λ s. Has ss s → ⊥) last (before.new (suc n) (omega arith) inside) in
+    record { table = rw last (table_push ss (take n w) (get_or w n 0) before.there new before.table); there = has_push ss (take (suc n) w); new = new_push ss w n inside before.new }
+
+-- the first m + 1 of the prefixes behind the first k
+pub prefixes-more : (w : List ℕ) (k m : ℕ) → k + m < length w → take (m + 1) (drop k (prefixes w)) ≡ take m (drop k (prefixes w)) ++ (take (suc (k + m)) w ∷ [])
+prefixes-more w k m inside =
+    let long : m < length (drop k (prefixes w)) = omega (arith, length-drop k (prefixes w), length-prefixes w) in
+    take_more (drop k (prefixes w)) m [] long ∙ ap (λ s. take m (drop k (prefixes w)) ++ (s ∷ [])) (get_or-drop k (prefixes w) m [] ∙ prefix_at w (k + m) inside)

@@ -3,13 +3,14 @@ use Rattle.std.proofs.Common.{◌≡◌, ℕ, suc, ◌+◌, ◌*◌, ◌/◌, �
 use native.Mathlib.Nat.{pow-succ'}
 use lib.Bits.{bit_or, or_step, or_zero_r, or_shifted_r}
 use Rattle.std.specs.List.{ContainsAt as Has, AllByRecursion}
+use Rattle.std.proofs.lemmas.List.{length-map, get_or-map}
 use Rattle.std.proofs.ByRecursion.{All-weaker, all_has_itself}
 use Rattle.std.proofs.lemmas.Bool.{cases_lt, or_parts}
 use Rattle.std.proofs.lemmas.Bool.Decides.{Decides-like, Decides-or, same_from_decides, nat_tests}
 use Rattle.finder.specs.Words.{same, ends_with, word, defined, half_read, advance_all, holds, mask}
 use Rattle.finder.specs.Meaning.{ExactlyIf, EndsWith, Bit}
 use Rattle.finder.proofs.HalfRead.{decides_same, decides_ends_with, decides_whole, defined-same, advance-half_read, half_read-nothing, length-half_read, word-half_read}
-use Rattle.finder.proofs.Masks.{mask_below, mask-bit, mask-at_rest}
+use Rattle.finder.proofs.Masks.{mask_below, mask-bit, mask-past, mask-at_rest}
 use Rattle.nodes.specs.Nodes.{among, strings, longest, back_string, step, suffix_mask, own_mask}
 use Rattle.nodes.proofs.Suffixes.{ends-itself, ends-trans, ends-whole}
 use Rattle.nodes.proofs.Strings.{among_none, has_root, has_front, has_word}
@@ -51,6 +52,10 @@ exactly_from_decides r this other = (λ p. other.0 (this.1 p), λ q. this.0 (oth
 pub suffix_mask-bit : (ws : List (List ℕ)) (s : List ℕ) (k : ℕ) → k < length ws → ExactlyIf (Bit (suffix_mask ws s) k) (EndsWith s (word ws k))
 suffix_mask-bit ws s k within = rw (suffix_mask-is ws s) (exactly_from_decides _ (rw (word-half_read ws s k within) at (mask-bit ws (half_read ws s) k (length-half_read ws s) within)) (decides_whole s (word ws k)))
 
+-- and no bit past the words
+pub suffix_mask-past : (ws : List (List ℕ)) (s : List ℕ) (k : ℕ) → length ws ≤ k → Bit (suffix_mask ws s) k → ⊥
+suffix_mask-past ws s k past = rw (suffix_mask-is ws s) (mask-past ws (half_read ws s) k past)
+
 -- the root is the end of no word, if none is empty
 pub suffix_mask-root : (ws : List (List ℕ)) → ((k : ℕ) → k < length ws → 0 < length (word ws k)) → suffix_mask ws [] ≡ 0
 suffix_mask-root ws some = suffix_mask-is ws [] ∙ ap (mask ws) (half_read-nothing ws) ∙ mask-at_rest ws some
@@ -72,6 +77,13 @@ own_mask-is (w ∷ ws) s = let this = holds-own (same w s) (length w) in let res
 -- it fits below the power of two of the words
 pub own_mask-below : (ws : List (List ℕ)) (s : List ℕ) → own_mask ws s < 2 ^ length ws
 own_mask-below ws s = rw (own_mask-is ws s) (mask_below ws (own_halves ws s))
+
+-- bit k is set exactly if word k is s
+pub own_mask-bit : (ws : List (List ℕ)) (s : List ℕ) (k : ℕ) → k < length ws → ExactlyIf (Bit (own_mask ws s) k) (word ws k ≡ s)
+own_mask-bit ws s k within =
+    let w = word ws k in
+    let read = ap (holds (length w)) (get_or-map (λ w. cond (same w s) (length w ∷ []) []) ws k [] [] within) ∙ holds-own (same w s) (length w) in
+    rw (own_mask-is ws s) (exactly_from_decides _ (rw read at (mask-bit ws (own_halves ws s) k (length-map ws _) within)) (decides_same w s))
 
 -- a string that is no word has no bit
 pub own_mask-none : (ws : List (List ℕ)) (s : List ℕ) → (Has ws s → ⊥) → own_mask ws s ≡ 0

@@ -15,6 +15,10 @@ use Rattle.nodes.specs.Tables.{Rooted, Distinct, Closed, Table, Begins}
 pub decides_among : (ss : List (List ℕ)) (s : List ℕ) → Decides (among ss s) (Has ss s)
 decides_among ss s = Decides-by_or (λ t. same t s) (λ t. t ≡ s) (λ ts. among ts s) (λ t. decides_same t s) refl (λ _ _. refl) ss
 
+-- a string is among these, or it is not
+pub cases_has : (ss : List (List ℕ)) (s : List ℕ) → Has ss s ⊎ (Has ss s → ⊥)
+cases_has ss s = ⊎_elim (λ e. inl ((decides_among ss s).0 e)) (λ e. inr (not_from_Decides _ (decides_among ss s) e)) (cases_Bool (among ss s))
+
 -- so a string that is not among these fails the test
 pub among_none : (ss : List (List ℕ)) (s : List ℕ) → (Has ss s → ⊥) → among ss s ≡ false
 among_none ss s not = false_from_ne_true _ (λ e. not ((decides_among ss s).0 e))

@@ -41,7 +41,8 @@ module _ {F : Type 0} (finder : Ghosts F) (s t : Scan F) (k : ℕ) (r : Result O
     told : Told o
     told = subst (λ (x : Result Order Fault). Upon None x Told s t) is (subst (λ (l : Line). Upon l r Told s t) free issued.always)
 
-    settled : (q ≡ Ok o.numbers.entry) × (u ≡ with_out None t)
+    -- so carrying the order out answers its entry, and spends it
+    pub settled : (q ≡ Ok o.numbers.entry) × (u ≡ with_out None t)
     settled =
         let own : settle_refusal t.out o.numbers ≡ None = ap (λ (x : Scan F). settle_refusal x.out o.numbers) told.2 ∙ own_order o.numbers in
         subst (λ (l : Line). Settled l o o.numbers.entry q (u ≡ with_out None t) t u) own carried.always

@@ -122,24 +122,29 @@ so_far_run p q w front is ms small f adds same =
       good = f.good;
     }
 
--- what lies in front of the next word, with one more operator in it
-front_wider : (o : Option Gap) (h : Gap) (had next : Spacing) → Some had ≡ front_so_far o → ((g : Gap) → had ≡ capped g → next ≡ capped (plus g h)) → Some next ≡ front_so_far (with_gap o h)
-front_wider None h had next is sums = absurd (cc)
-front_wider (Some g) h had next is sums = ap Some (sums g cc)
-
--- an operator taken up behind a word
-pub so_far_operator : (p : Plan) (i : Item) (had next : Spacing) (is : List Item) (ms : List Landmark) → grouped (i ∷ is) ≡ with_operator i (grouped is)
-    → ((g : Gap) → had ≡ capped g → next ≡ capped (plus g (allowance i))) → SoFar p (Some had) (i ∷ is) ms → SoFar p (Some next) is ms
-so_far_operator p i had next is ms groups sums f =
+-- an operator taken up
+pub so_far_operator : (p : Plan) (i : Item) (front next : Option Spacing) (is : List Item) (ms : List Landmark) → grouped (i ∷ is) ≡ with_operator i (grouped is)
+    → (f : SoFar p front (i ∷ is) ms) → next ≡ front_so_far (with_gap f.gap (allowance i)) → SoFar p next is ms
+so_far_operator p i front next is ms groups f e =
     let g = grouped is in
     record {
       gap = with_gap f.gap (allowance i);
-      front-is = front_wider f.gap (allowance i) had next f.front-is sums;
+      front-is = e;
       spots = ap (λ l. spots_of p ++ (l ++ map spot_of (seats (landmarks_in p) g.landmarks))) (sym (before-operator (landmarks_in p - 1) f.gap i g.steps))
           ∙ ap (λ x. spots_of p ++ spots_to_come (landmarks_in p) f.gap x) (sym groups) ∙ f.spots;
       roles = ap (λ (x : Groups). roles_of p ++ map role_of x.landmarks) (sym groups) ∙ f.roles;
       good = subst (λ (x : Groups). AllByRecursion GoodLandmark x.landmarks) groups f.good;
     }
+
+-- what lies in front of the next word, with one more operator in it
+front_wider : (o : Option Gap) (h : Gap) (had next : Spacing) → Some had ≡ front_so_far o → ((g : Gap) → had ≡ capped g → next ≡ capped (plus g h)) → Some next ≡ front_so_far (with_gap o h)
+front_wider None h had next is sums = absurd (cc)
+front_wider (Some g) h had next is sums = ap Some (sums g cc)
+
+-- one taken up behind a word widens the gap there
+pub so_far_wider : (p : Plan) (i : Item) (had next : Spacing) (is : List Item) (ms : List Landmark) → grouped (i ∷ is) ≡ with_operator i (grouped is)
+    → ((g : Gap) → had ≡ capped g → next ≡ capped (plus g (allowance i))) → SoFar p (Some had) (i ∷ is) ms → SoFar p (Some next) is ms
+so_far_wider p i had next is ms groups sums f = so_far_operator p i (Some had) (Some next) is ms groups f (front_wider f.gap (allowance i) had next f.front-is sums)
 
 -- nothing is to come at the end
 pub so_far_end : (p : Plan) (front : Option Spacing) (ms : List Landmark) → Small ms → SoFar p front [] ms → PlanOf p ms

@@ -41,9 +41,10 @@ impl Plan {
                 });
                 Some(Spacing::none())
             }
-            Element::Gap(_) | Element::Star | Element::Any => {
-                Some(front?.plus(element.allowance()))
-            }
+            // One arm an operator, as in judging a list: it is what keeps reading fast.
+            Element::Gap(_) => Some(front?.plus(element.allowance())),
+            Element::Star => Some(front?.plus(Element::Star.allowance())),
+            Element::Any => Some(front?.plus(Element::Any.allowance())),
         }
     }
 

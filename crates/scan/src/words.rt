@@ -24,11 +24,13 @@ fn has_word<F: Finder>(finder: &F, k: usize, bytes: &[u8]) -> bool
 pub(crate) fn first_other<F: Finder>(finder: &F, list: &[u8]) -> Option<usize>
     ensures { result ≡ first_other 0 (F.Finder.words finder.now) (words_of list.now) }
 {
-    for (k, word) in ListWords::of(list).enumerate() {
-        if !has_word(finder, k, word) {
-            return Some(k);
+    // Words are counted as they are compared, since counting them apart reads the list once more.
+    let mut count = 0;
+    for word in ListWords::of(list) {
+        if !has_word(finder, count, word) {
+            return Some(count);
         }
+        count += 1;
     }
-    let count = ListWords::of(list).count();
     (count < finder.count()).then_some(count)
 }

@@ -17,6 +17,10 @@ OnlyLasts lasts left = (p : ℕ) → bit left p ≡ true → bit lasts p ≡ tru
 pub only_lasts : (r lasts : ℕ) → OnlyLasts lasts (bit_and r lasts)
 only_lasts r lasts p set = (and_parts (bit r p) (bit lasts p) (sym (bit-and r lasts p) ∙ set)).1
 
+-- and so has what is left of such a number
+pub only_still : (left other lasts : ℕ) → OnlyLasts lasts left → OnlyLasts lasts (bit_and left other)
+only_still left other lasts only p set = only p (and_parts (bit left p) (bit other p) (sym (bit-and left other p) ∙ set)).0
+
 -- some bits are left, of the last bytes of these words, and the lowest comes off
 module _ (ws : List (List ℕ)) (lasts left p rest : ℕ) (some : SomeBytes ws) (is : lasts ≡ lasts_of ws) (only : OnlyLasts lasts left) (low : Lowest left p rest) where
   -- the others are last bits too

@@ -2,7 +2,7 @@
 use Rattle.std.proofs.Common.{◌≡◌, ℕ, ◌+◌, ◌-◌, ◌*◌, ◌%◌, ◌^◌, ◌<◌, ◌≤◌, List, ◌∷◌, map, length, get_or, drop, ap, ◌∙◌, subst, lt_of_lt_of_le, arith, pow_mono, pow-add, Bor}
 use lib.Bits.{bit_or, or_shifted_r}
 use Rattle.std.proofs.lemmas.Nat.{one_shl}
-use Rattle.std.proofs.lemmas.List.{drop_more}
+use Rattle.std.proofs.lemmas.List.{drop_more, drop_all}
 use Rattle.landmark.specs.Grammar.{sizes}
 use Rattle.shift.specs.Register.{firsts_of, lasts_of}
 
@@ -13,6 +13,10 @@ pub record Edged (ws : List (List ℕ)) (firsts lasts p : ℕ) (rest : List (Lis
   pub begins : firsts + 2 ^ p * firsts_of rest ≡ firsts_of ws
   pub ends : lasts + 2 ^ p * lasts_of rest ≡ lasts_of ws
   pub place : p + sizes rest ≡ sizes ws
+
+-- before the first word nothing is gathered
+pub edged_none : (ws : List (List ℕ)) → Edged ws 0 0 0 ws
+edged_none ws = record { small = omega arith; little = omega arith; begins = omega arith; ends = omega arith; place = omega arith }
 
 -- a bit above all others is added by an or
 put-bit : (n p q : ℕ) → n < 2 ^ p → p ≤ q → q < 64 → bit_or n (1 * 2 ^ q % 2 ^ 64) ≡ n + 2 ^ q
@@ -54,3 +58,9 @@ module _ (ws : List (List ℕ)) (firsts lasts p k : ℕ) (slices : List (Bor (Li
   pub edged_more : sizes ws ≤ 64 → 0 < length (get_or slices k other).now
       → Edged ws (bit_or firsts (1 * 2 ^ p % 2 ^ 64)) (bit_or lasts (1 * 2 ^ (p + length (get_or slices k other).now - 1) % 2 ^ 64)) (p + length (get_or slices k other).now) (map (λ s. s.now) (drop (k + 1) slices))
   edged_more narrow some = edged_word ws firsts lasts p (get_or slices k other).now (map (λ s. s.now) (drop (k + 1) slices)) narrow some next
+
+-- behind the last word all bits are gathered
+pub edged_all : (ws : List (List ℕ)) (firsts lasts p k : ℕ) → length ws ≤ k → Edged ws firsts lasts p (drop k ws) → (firsts ≡ firsts_of ws) × (lasts ≡ lasts_of ws)
+edged_all ws firsts lasts p k past g =
+    let done = subst (Edged ws firsts lasts p) (drop_all k ws past) g in
+    (omega (arith, done.begins), omega (arith, done.ends))

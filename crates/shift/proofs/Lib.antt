@@ -1,6 +1,8 @@
 pub mod Bits
 pub mod Numbers
 pub mod Gathering
+pub mod Admission
+pub mod Filling
 pub mod Edging
 pub mod Resting
 pub mod MountLaws

@@ -1,27 +1,20 @@
 -- Mounting, from the parts of its code, and that what was built is accepted.
-use Rattle.std.proofs.Common.{◌≡◌, ℕ, ◌≤◌, List, length, get_or, drop, None, Ok, Err, Result, refl, ap, ◌∙◌, inl, inr, arith}
+use Rattle.std.proofs.Common.{◌≡◌, ℕ, List, length, get_or, drop, Ok, Err, Result, sym, refl, ap, ◌∙◌, subst, inl, inr, arith}
 use Rattle.std.proofs.lemmas.List.FromFn.{length-map-range_with_len}
 use Rattle.std.proofs.lemmas.List.{length-append, length-drop}
-use Rattle.std.proofs.lemmas.Bool.Decides.{nat_tests}
 use Rattle.landmark.specs.Grammar.{words_of}
-use Rattle.landmark.specs.Lists.{list_verdict}
-use Rattle.landmark.specs.declared.list.Counts.{Counts}
 use Rattle.landmark.specs.declared.refusal.Fault.{Fault}
 use Rattle.shift.specs.Table.{entries, all_bytes, number_of, table_of}
-use Rattle.shift.specs.Building.{fault_of, admission_fault, Builds}
+use Rattle.shift.specs.Building.{admission_fault, Builds}
 use Rattle.shift.specs.Mounting.{Refuses, Mounts, AcceptsBuilt}
 use Rattle.shift.specs.declared.shift.ShiftFinder.{ShiftFinder}
+use Rattle.shift.proofs.Admission.{admitted_sizes}
 use Rattle.shift.proofs.Numbers.{table_at}
-
--- the table of an admitted list has enough numbers
-enough_by : (verdict : Result Counts Fault) (numbers : ℕ) → fault_of verdict numbers ≡ None → entries ≤ numbers
-enough_by (Ok counts) numbers none = grind (arith, nat_tests)
-enough_by (Err f) numbers none = let z : ◌≡◌ {A = ℕ} 0 1 = cc in absurd (omega arith)
 
 -- a table keeps its length when it is built
 built_length : (l before table : List ℕ) (written : ℕ) → Builds l before table (Ok written) → length table ≡ length before
 built_length l before table written (none, all, is) =
-    let enough = enough_by (list_verdict l) (length before) none in
+    let enough = admitted_sizes l (length before) none in
     let size = length-map-range_with_len (number_of (all_bytes (words_of l))) 0 entries in
     ap length is ∙ length-append (table_of (words_of l)) (drop entries before) ∙ omega (arith, length-drop entries before)
 
@@ -39,3 +32,7 @@ built_refused l before table written f built (inr (none, is, first)) =
 pub accepts_built : (l table : List ℕ) (s s' : ShiftFinder) (r : Result Unit Fault) → Mounts l table s s' r → AcceptsBuilt l table r
 accepts_built l table s s' (Ok done) mounts before written built = refl
 accepts_built l table s s' (Err f) (why, kept) before written built = absurd (built_refused l before table written f built why)
+
+-- a refusal, and the finder as it was
+pub refused : (l table : List ℕ) (s : ShiftFinder) (f : Fault) (r : Result Unit Fault) → Refuses l table f → r ≡ Err f → Mounts l table s s r × AcceptsBuilt l table r
+refused l table s f r why is = let mounts = subst (Mounts l table s s) (sym is) (why, refl) in (mounts, accepts_built l table s s r mounts)

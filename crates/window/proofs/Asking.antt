@@ -1,13 +1,14 @@
 -- Questions asked of the numbers of a window under masks, and what they say of the ends.
-use Rattle.std.proofs.Common.{◌≡◌, ℕ, ◌+◌, ◌-◌, ◌*◌, ◌/◌, ◌%◌, ◌^◌, ◌<◌, ◌≤◌, min, ◌≢◌, ◌⊎◌, List, length, get_or, sym, ap, ◌∙◌, subst, inl, inr, ⊎_elim, w64, arith}
+use Rattle.std.proofs.Common.{◌≡◌, ℕ, ◌+◌, ◌-◌, ◌*◌, ◌/◌, ◌%◌, ◌^◌, ◌<◌, ◌≤◌, min, ◌≢◌, ◌⊎◌, List, [], length, get_or, sym, ap, ◌∙◌, subst, inl, inr, ⊎_elim, w64, arith}
 use lib.Bits.{bit_and, and_le_r}
+use Rattle.std.proofs.lemmas.List.{get_or_past}
 use Rattle.std.proofs.lemmas.Bool.{cases_eq, cases_lt}
 use Rattle.std.specs.Prelude.{EachIndex}
 use Rattle.finder.specs.Meaning.{ExactlyIf, Bit}
 use Rattle.bits.proofs.Bits.{bit-both, bit-of_zero}
 use Rattle.std.specs.Int.{bit_at, trailing_zeros}
 use Rattle.std.proofs.lemmas.Nat.Bits.{bit_at-trailing_zeros}
-use Rattle.window.specs.Windows.{number_bits, numbers, span, BitOf, NoBit}
+use Rattle.window.specs.Windows.{number_bits, numbers, span, words, BitOf, Marked, NoBit}
 use Rattle.window.specs.Bits.{Masks, SomeBit, SomeBitAround, SomeBitIn}
 
 -- number i under the mask of its bits from first to last is not 0 exactly if one of these bits is set
@@ -64,6 +65,11 @@ around_end window low high order few around = (
       (e, omega arith, omega arith, subst (BitOf window) (sym same) set)),
   λ (e, from, to, set). ⊎_elim (λ below. inr (e % span, omega arith, omega arith, set)) (λ up. inl (e % span, omega arith, omega arith, set)) (cases_lt (e % span) (low % span)),
 )
+
+-- a word that has no window is never marked
+pub none_marked_past : (xs : List (List ℕ)) (k b : ℕ) → length xs ≡ words → words ≤ k → Marked xs k b → ⊥
+none_marked_past xs k b whole past set =
+    bit-of_zero (b % number_bits) (ap (λ (w : List ℕ). bit_at (get_or w (b / number_bits) 0) (b % number_bits)) (sym (get_or_past xs k [] (omega arith))) ∙ set)
 
 -- where every number of a window is 0, and only there, no bit is set
 pub no_bit : (window : List ℕ) → ((i : ℕ) → get_or window i 0 < 2 ^ number_bits) → length window ≡ numbers → ExactlyIf (EachIndex window (λ i. get_or window i 0 ≡ 0)) (NoBit window)

@@ -1,9 +1,9 @@
 -- The words of a list from a place on.
-use Rattle.std.proofs.Common.{◌≡◌, ℕ, ◌≤◌, ◌⊎◌, List, [], ◌∷◌, ◌++◌, length, take, Ok, Err, sym, refl, ap, ◌∙◌, inl, inr, ⊎_elim, arith, Bor}
-use Rattle.std.proofs.lemmas.List.{take_all, take_at, append-nil}
+use Rattle.std.proofs.Common.{◌≡◌, ℕ, ◌+◌, ◌-◌, ◌<◌, ◌≤◌, ◌⊎◌, List, [], ◌∷◌, ◌++◌, length, get_or, take, drop, None, Ok, Err, sym, refl, ap, ◌∙◌, inl, inr, ⊎_elim, arith, Bor}
+use Rattle.std.proofs.lemmas.List.{get_or-take, get_or-drop, get_or_past, length-take, length-drop, get_or-map, take_all, take_at, append-nil}
 use Rattle.std.proofs.lemmas.Bool.{cases_lt}
 use Rattle.std.proofs.lemmas.Bool.Decides.{nat_tests}
-use Rattle.landmark.specs.Records.{Item, run, item, after, item_at}
+use Rattle.landmark.specs.Records.{Item, run, item, after, unfit, item_at, two_bytes, body_at, longest_run}
 use Rattle.landmark.specs.Grammar.{sizes, words_of, words_from, runs_of, items_of}
 use Rattle.landmark.specs.Lists.{list_verdict, most_words, parts_from}
 use Rattle.landmark.specs.declared.element.Element.{Element}
@@ -18,11 +18,59 @@ use Rattle.words.specs.Index.{Indexes, indexed, slices}
 use Rattle.words.specs.Sizes.{length-indexed, indexed-few}
 use Rattle.words.specs.declared.words.Words.{Words}
 
--- a run that was read has 1 to 64 bytes
-pub run_read : (l : List ℕ) (p : ℕ) (e : Element) (bytes : Bor (List ℕ)) → item_at l p ≡ Ok (item e) → e ≡ E.Run bytes → RunSized bytes.now
-run_read l p e bytes here is =
-    let fit = (stands l p (run bytes.now) (here ∙ ap (λ x. Ok (item x)) is)).content.fit in
-    (grind (arith, nat_tests), grind (arith, nat_tests))
+-- the n bytes of a list from a place on
+abbrev pub part_at : List ℕ → ℕ → ℕ → List ℕ
+part_at l p n = take n (drop p l)
+
+-- a part inside a list has the length asked for
+pub length_part : (l : List ℕ) (p n : ℕ) → p + n ≤ length l → length (part_at l p n) ≡ n
+length_part l p n fits = simp (length-take, length-drop) (omega arith)
+
+-- a part of bytes is bytes
+part_bytes : (l : List ℕ) (p n : ℕ) → Bytes l → Bytes (part_at l p n)
+part_bytes l p n bytes k =
+    ⊎_elim (λ within. rw (get_or-take n (drop p l) k 0 within, get_or-drop p l k 0) (bytes (p + k)))
+    (λ past. rw (get_or_past (part_at l p n) k 0 (omega (arith, length-take n (drop p l)))) (omega arith))
+    (cases_lt k n)
+
+-- a run lies inside the list behind its record's head, and has 1 to 64 bytes
+pub record RunAt (l : List ℕ) (p : ℕ) (bytes : List ℕ) : Type 0 where
+  pub is : part_at l (p + 4) (length bytes) ≡ bytes
+  pub within : p + 4 + length bytes ≤ length l
+  pub some : 0 < length bytes
+  pub small : length bytes ≤ longest_run
+
+-- a fit run has 1 to 64 bytes
+fit_run : (bytes : List ℕ) → unfit (run bytes) ≡ None → RunSized bytes
+fit_run bytes fit = (grind (arith, nat_tests), grind (arith, nat_tests))
+
+-- the run whose record stands at a place
+run_at : (l : List ℕ) (p : ℕ) (bytes : List ℕ) → Bytes l → item_at l p ≡ Ok (run bytes) → RunAt l p bytes
+run_at l p bytes all e =
+    let there = stands l p (run bytes) e in
+    let fits = there.fits in
+    let sized = there.sized in
+    let body = there.content.body_is (part_bytes l (p + 4) (two_bytes l p - 2) all) in
+    let size : length (body_at l p) ≡ two_bytes l p - 2 = length_part l (p + 4) (two_bytes l p - 2) (omega arith) in
+    let same : length bytes ≡ two_bytes l p - 2 = sym (ap length body) ∙ size in
+    let (some, small) = fit_run bytes there.content.fit in
+    record { is = ap (part_at l (p + 4)) same ∙ body; within = omega arith; some = some; small = small }
+
+-- the run of an element that was read
+pub run_read : (l : List ℕ) (p : ℕ) (e : Element) (bytes : Bor (List ℕ)) → Bytes l → item_at l p ≡ Ok (item e) → e ≡ E.Run bytes → RunAt l p bytes.now
+run_read l p e bytes all here is = run_at l p bytes.now all (here ∙ ap (λ x. Ok (item x)) is)
+
+-- so it has 1 to 64 bytes, whatever numbers stand in the list
+pub run_sized : (l : List ℕ) (p : ℕ) (e : Element) (bytes : Bor (List ℕ)) → item_at l p ≡ Ok (item e) → e ≡ E.Run bytes → RunSized bytes.now
+run_sized l p e bytes here is = fit_run bytes.now (stands l p (run bytes.now) (here ∙ ap (λ x. Ok (item x)) is)).content.fit
+
+-- word k is slice k
+pub word-indexed : (w : Words) (k : ℕ) (other : Bor (List ℕ)) → k < length (slices w) → get_or (indexed w) k [] ≡ (get_or (slices w) k other).now
+word-indexed w k other = get_or-map (λ s. s.now) (slices w) k other []
+
+-- and has its length
+pub length-word : (w : Words) (k : ℕ) (other : Bor (List ℕ)) → k < length (slices w) → length (get_or (indexed w) k []) ≡ length (get_or (slices w) k other).now
+length-word w k other within = ap length (word-indexed w k other within)
 
 -- the words from a run on
 pub words-at_run : (l : List ℕ) (p : ℕ) (e : Element) (bytes : Bor (List ℕ)) → item_at l p ≡ Ok (item e) → e ≡ E.Run bytes → words_from l p ≡ bytes.now ∷ words_from l (after l p)

@@ -24,7 +24,7 @@ impl<'a> Words<'a> {
     pub fn run_bytes(&self) -> usize
         ensures { result ≡ sizes (indexed self.now) }
     {
-        self.as_slice().iter().map(|word| word.len()).sum()
+        self.run_bytes
     }
 
     // The bytes of word k, none where there is no such word.

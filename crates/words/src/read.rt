@@ -15,6 +15,7 @@ impl<'a> Words<'a> {
     {
         Words {
             words: ArrayVec::new(),
+            run_bytes: 0,
         }
     }
 
@@ -24,6 +25,7 @@ impl<'a> Words<'a> {
         requires sized { RunSized word.now }
         ensures { indexed self.new ≡ indexed self.old ++ (word.now ∷ []) }
     {
+        self.run_bytes += word.len();
         self.words.push(word);
     }
 

@@ -99,6 +99,15 @@ pub fn shift_finder<'a>(list: &'a [u8], numbers: &'a mut [u64]) -> Result<ShiftF
     ShiftFinder::mounted(list, numbers)
 }
 
+// Both finders of the list. The shift finder's fault comes first, and behind it no link finder is made.
+fn both_finders<'a>(
+    list: &'a [u8],
+    numbers: &'a mut [u64],
+    nodes: &'a mut [Node],
+) -> Result<(ShiftFinder<'a>, LinkFinder<'a>), Fault> {
+    Ok((shift_finder(list, numbers)?, link_finder(list, nodes)?))
+}
+
 // A refusal is an answer.
 fn print_refusal(rt: &HostRuntime, fault: Fault) -> anyhow::Result<()> {
     println!(rt; "refused {fault}")?;
@@ -124,13 +133,9 @@ pub fn find(rt: &HostRuntime, method: Method, list: &[u8], image: &[u8]) -> anyh
     match method {
         Method::Link => print_found(rt, link_finder(list, nodes.as_mut_slice()), image),
         Method::Shift => print_found(rt, shift_finder(list, &mut numbers), image),
-        Method::Both => {
-            let shift = shift_finder(list, &mut numbers);
-            let link = link_finder(list, nodes.as_mut_slice());
-            match (shift, link) {
-                (Ok(mut shift), Ok(mut link)) => print_in_step(rt, &mut link, &mut shift, image),
-                (Err(fault), _) | (_, Err(fault)) => print_refusal(rt, fault),
-            }
-        }
+        Method::Both => match both_finders(list, &mut numbers, nodes.as_mut_slice()) {
+            Ok((mut shift, mut link)) => print_in_step(rt, &mut link, &mut shift, image),
+            Err(fault) => print_refusal(rt, fault),
+        },
     }
 }

@@ -9,6 +9,6 @@ follow-requires g c =
 
 pub returns : goal.returns
 returns g c = record {
-  within = omega (arith, c.requires.tree.size, c.follow.ensures.0);
+  within = omega (arith, c.requires.tree.size, from-within g.ws c.args.at c.args.table.now c.requires, c.follow.ensures.0);
   is = back_followed g.ws c.args.at c.args.table.now c.requires c.args.byte c.follow.result (omega arith) c.follow.ensures;
 }

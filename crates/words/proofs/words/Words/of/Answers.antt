@@ -1,5 +1,5 @@
-use Rattle.std.proofs.Common.{[], ◌∷◌, ◌++◌, ap, ◌∙◌, sym, inl, inr, arith}
-use Rattle.std.proofs.lemmas.List.{append_assoc}
+use Rattle.std.proofs.Common.{rules, [], ◌∷◌, ◌++◌, ap, ◌∙◌, sym, inl, inr, arith}
+use Rattle.std.proofs.lemmas.List.{append_assoc, length-drop, length-take}
 use Rattle.std.proofs.lemmas.Bool.Decides.{nat_tests}
 use Rattle.landmark.specs.Grammar.{words_from}
 use Rattle.landmark.specs.Readings.{readings_left}
@@ -28,7 +28,11 @@ pub push-requires-clause-sized : goal.push-requires-clause-sized
 push-requires-clause-sized c =
     let (p, left, all) = c.loop-read.invariant in
     let first = first_reading c.args.list.now p left c.in-Some.ensures.steps c.in-Ok.is in
-    run_read c.args.list.now p _ _ first.1.0 c.in-Run.is
+    let run = run_read c.args.list.now p _ _ (λ k. (c.type_inv.list k).fits) first.1.0 c.in-Run.is in
+    let within = run.within in
+    let some = run.some in
+    let small = run.small in
+    search (rules, length-take, length-drop)
 
 pub loop-read-preserved-in-Run : goal.loop-read-preserved-in-Run
 loop-read-preserved-in-Run c =
